@@ -5,7 +5,7 @@ use mathlib.Core.Logic.{dite}
 use mathlib.Core.Option.{none, some}
 use native.Mathlib.Decide.{dec_le}
 use lib.ListN.{get_elem?}
-use Rattle.std.{specs.{List.Contains, Prelude.{Bool, true, false, nat_lt, not, if◌then◌else◌, Option, Some, None, Result, Ok, Err, IsSomeAnd}}, proofs.lemmas.Bool.ltb-true}
+use Rattle.std.{specs.{List.Contains, Prelude.{Bool, true, false, nat_lt, not, if◌then◌else◌, Option, Some, None, Result, Ok, Err, IsSomeAnd}}, proofs.lemmas.Bool.{ltb-true, ltb-false}}
 use Rattle.atomic_table.specs.Table.{step, Act, keeps, Valid, stepped, carried_after, Allows}
 use Rattle.pm_facts.specs.Numbers.{sum_below, sum_zero}
 use Rattle.pm_supervisor.specs.{pm_exit.declared.child.{Kind.Kind, Status.TheVariants.Code}, declared.Reason.Reason, Children.{Child, is_session, is_startup_child, is_dead_end, attached_sessions}}
@@ -14,7 +14,7 @@ use Rattle.pm_supervisor.specs.declared.Reason.TheVariants as reason
 use Rattle.pm_supervisor.specs.Shared as shared
 use Rattle.pm_child_life.specs.declared.life.GateNo.{GateNo}
 use Rattle.pm_child_life.specs.declared.life.GateNo.TheVariants as gate_no
-use Rattle.pm_board.{specs.{Slots.child_slots, declared.views.{Offer.Offer, PastChild.PastChild, PostNotes.PostNotes, RosterStep.RosterStep, RosterView.RosterView, Sight.{Sight, TheVariants.{Unused, Opened, Assigned, Exited, Collected, Gathered}}, SlotView.SlotView, Work.{Work, TheVariants.{Idle, Inactive, Active, Refused, Attached}}, PostView.PostView, View.{View, TheVariants.{Postmaster, Worker}}}, Words.bit, Places.{slot_at, slot_view, SlotServes, is_auxiliary, lost, is_used, used_in}, Gate.{gate_of, notice_bits, gate_packed, sessions_in, open_in, notice_in, generation_in, place_of, answer_to, gate_answer, at_gate, attached, counted, staying, IsCurrent, AllUpTo, InGeneration, AuxiliaryOnce, GateOk}, Rule.{at_put, put, Phase, unused, opened, offered, running, ended, collected, gathered, child_word, Seen, Does, OfChild, OfLiving, IsPlaced, Cell, Holds}, Latches.{NotReleased, NoticedBefore}, History.{living, Kept}, Told.{Seated, post_view, tried, tried_by, detached, after_step, MayQuit, quit_step, ready_step, new_gate, Marks, Unmarks, Tries, BacksOut, Detaches, Quits, Readies, Resets}}, proofs.{Bits.{bit_small, packed_small}, Moves.{rebased, worker_step, word_step, word_turn, St}, Gates.{uncounted_by, gate_moves, once_still}, Counts.{sum_within, notice_small, place_is, up_to_more, none_lost, attached_within, count_moves, Reads, reads}, Latches.{at_last, noticed_now, quit_is_no_release, ready_is_no_release, reset_is_no_release, hears_met, latch_here, latches_still, latches_turn}, Seats.{seats_step, seats_still}, Histories.{kept, same_history, quiet}, Passes.{is_false, lives, passes, shown_attached, quit_history, ready_history, reset_history}, Keeps.{grown, fits_for, at_phase, placed_as, owned, does_run, does_act, does_back, does_stay}}}
+use Rattle.pm_board.{specs.{Slots.child_slots, declared.views.{Offer.Offer, PastChild.PastChild, PostNotes.PostNotes, RosterStep.RosterStep, RosterView.RosterView, Sight.{Sight, TheVariants.{Unused, Opened, Assigned, Exited, Collected, Gathered}}, SlotView.SlotView, Work.{Work, TheVariants.{Idle, Inactive, Active, Refused, Attached}}, PostView.PostView, View.{View, TheVariants.{Postmaster, Worker}}}, Words.bit, Places.{slot_at, slot_view, SlotServes, is_auxiliary, lost, is_used, used_in}, Gate.{Gate, GateAnswers, gate_of, notice_bits, gate_packed, sessions_in, open_in, notice_in, generation_in, place_of, answer_to, gate_answer, at_gate, attached, counted, staying, IsCurrent, AllUpTo, InGeneration, AuxiliaryOnce, GateOk}, Rule.{at_put, put, Phase, unused, opened, offered, running, ended, collected, gathered, child_word, Seen, Does, OfChild, OfLiving, IsPlaced, Cell, Holds}, Latches.{NotReleased, NoticedBefore, IsAssignedBy, AnsweredBefore, doings}, History.{living, Kept}, Told.{Seated, post_view, tried, tried_by, detached, after_step, MayQuit, quit_step, ready_step, new_gate, Marks, Unmarks, Tries, BacksOut, Detaches, Quits, Readies, Resets}}, proofs.{Bits.{bit_small, packed_small}, Moves.{rebased, worker_step, word_step, word_turn, St}, Gates.{uncounted_by, gate_moves, once_still}, Counts.{sum_within, notice_small, place_is, up_to_more, none_lost, attached_within, count_moves, Reads, reads}, Latches.{at_last, noticed_now, answered_now, quit_is_no_release, ready_is_no_release, reset_is_no_release, hears_met, latch_here, latches_still, latches_turn}, Seats.{seats_step, seats_still}, Histories.{kept, same_history, quiet}, Passes.{is_false, lives, passes, shown_attached, quit_history, ready_history, reset_history}, Keeps.{grown, fits_for, at_phase, placed_as, owned, does_run, does_act, does_back, does_stay}}}
 use Rattle.pm_board.specs.declared.views.Letter as Letter
 use Rattle.pm_board.specs.declared.views.PostStep.TheVariants as post_step
 use Rattle.pm_board.specs.declared.views.RosterStep.TheVariants as roster_step
@@ -48,6 +48,41 @@ refused_by true limit word None h why e = absurd (go (open_in word) (nat_lt (ses
     go true true e = absurd (cc)
     go true false e = absurd (cc)
     go false l e = absurd (cc)
+
+-- who is told that the gate isn't open, or of a limit that is reached, is a session that met that, and no notice
+not_ready : (b : Bool) (limit word : ℕ) (q : Option Reason) (h : ℕ) → answer_to b limit q word ≡ Err (gate_no.NotReady h) → (q ≡ None) × (h ≡ generation_in word) × (b ≡ true) × (open_in word ≡ false)
+not_ready true limit word (Some why) h e = absurd (cc)
+not_ready false limit word (Some why) h e = absurd (cc)
+not_ready false limit word None h e = absurd (cc)
+not_ready true limit word None h e = let it = go (open_in word) (nat_lt (sessions_in word) limit) e in (refl, it.1, refl, it.0)
+  where
+    go : (o l : Bool) → (if not o then Err (gate_no.NotReady (generation_in word)) else (if l then Ok (generation_in word) else Err (gate_no.TooMany (sessions_in word)))) ≡ Err (gate_no.NotReady h) → (o ≡ false) × (h ≡ generation_in word)
+    go true true e = absurd (cc)
+    go true false e = absurd (cc)
+    go false l e = let same : h ≡ generation_in word = cc in (refl, same)
+
+too_many : (b : Bool) (limit word : ℕ) (q : Option Reason) (count : ℕ) → answer_to b limit q word ≡ Err (gate_no.TooMany count) → (q ≡ None) × (limit ≤ count) × (b ≡ true) × (open_in word ≡ true)
+too_many true limit word (Some why) count e = absurd (cc)
+too_many false limit word (Some why) count e = absurd (cc)
+too_many false limit word None count e = absurd (cc)
+too_many true limit word None count e = let it = go (open_in word) (nat_lt (sessions_in word) limit) e in
+    (refl, (let full : limit ≤ sessions_in word = ltb-false (sessions_in word) limit it.1 in let same : count ≡ sessions_in word = it.2 in omega arith), refl, it.0)
+  where
+    go : (o l : Bool) → (if not o then Err (gate_no.NotReady (generation_in word)) else (if l then Ok (generation_in word) else Err (gate_no.TooMany (sessions_in word)))) ≡ Err (gate_no.TooMany count) → (o ≡ true) × (l ≡ false) × (count ≡ sessions_in word)
+    go true true e = absurd (cc)
+    go true false e = let same : count ≡ sessions_in word = cc in (refl, refl, same)
+    go false l e = absurd (cc)
+
+-- a word answers what the gate does that it shows
+answers : (kind : Kind) (limit word : ℕ) (gate : Gate) (answer : Result ℕ GateNo) → generation_in word ≡ gate.generation → notice_in word ≡ gate.noticed → open_in word ≡ gate.is_open → gate_answer kind limit word ≡ answer → GateAnswers limit kind gate answer
+answers kind limit word gate (Ok h) of_generation of_notice of_open e = let may = let_in (is_session kind) limit word (notice_in word) h e in
+    (may.1 ∙ of_generation, sym of_notice ∙ may.0, λ is. sym of_open ∙ (may.2 is).0)
+answers kind limit word gate (Err (gate_no.Quit h why)) of_generation of_notice of_open e = let met = refused_by (is_session kind) limit word (notice_in word) h why e in
+    (met.1 ∙ of_generation, sym of_notice ∙ met.0)
+answers kind limit word gate (Err (gate_no.NotReady h)) of_generation of_notice of_open e = let met = not_ready (is_session kind) limit word (notice_in word) h e in
+    (met.1 ∙ of_generation, sym of_notice ∙ met.0, met.2, sym of_open ∙ met.3)
+answers kind limit word gate (Err (gate_no.TooMany count)) of_generation of_notice of_open e = let met = too_many (is_session kind) limit word (notice_in word) count e in
+    (met.1, sym of_notice ∙ met.0, met.2, sym of_open ∙ met.3)
 
 -- so no more sessions stay than the limit, and none at a gate that isn't open
 few_of : (b : Bool) (S S' N met limit most : ℕ) (t : Bool) → S' ≡ S + bit t → S ≤ limit → S ≤ N → met ≡ N → most ≡ limit → (t ≡ true → met < most) → t ≡ b → S' ≤ limit
@@ -240,7 +275,9 @@ module _ {J D : Type 0} (letter : Letter.Ghosts J D) where
         let st = r.5 in let known = lives letter limit s r.0 r.1 r.2 r.3 st k mine.0 o true (Active o) e (ap (λ (z : PostView D). z.work) mine.2) in
         let attached_few : attached_sessions st.1.children ≤ sum_below (child_slots (length s.homes)) (λ j. attached is_session (r.2 j).post.work) = shown_attached (child_slots (length s.homes)) r.1 r.2 st.1 st.3 (λ j l. (r.3.each_slot j l).does) in
         let attached_in : sum_below (child_slots (length s.homes)) (λ j. attached is_session (r.2 j).post.work) ≤ N = sum_within (child_slots (length s.homes)) (λ j. attached is_session (r.2 j).post.work) (λ j. counted is_session r.1.generation (r.2 j).post)
-        (λ j. let z : attached is_session (r.2 j).post.work ≤ at_gate is_session (r.2 j).post.work = attached_within is_session (r.2 j).post.work in let l : ℕ = lost is_session r.1.generation (r.2 j).post.past in omega arith) in (
+        (λ j. let z : attached is_session (r.2 j).post.work ≤ at_gate is_session (r.2 j).post.work = attached_within is_session (r.2 j).post.work in let l : ℕ = lost is_session r.1.generation (r.2 j).post.past in omega arith) in
+        let shown : IsAssignedBy r.1.notes.steps o → AnsweredBefore (doings r.1.notes.steps notes.session_limit) o (Ok h) =
+        (λ there. answered_now notes.session_limit r.1.notes.steps o (gate_of r.1) (Ok h) r.5.4.leave there (sym now_is) (answers o.kind notes.session_limit word (gate_of r.1) (Ok h) it.generation_found it.notice_found it.open_found answer)) in (
           Worker k w',
           keeps,
           tt,
@@ -252,7 +289,7 @@ module _ {J D : Type 0} (letter : Letter.Ghosts J D) where
               (passes letter limit s r.0 r.1 r.2 r.3 st k mine.0 o true (Active o) (cell s r id k o w w' mine.0 mine.2 refl) (shared.Attach o.pid) (post_step.Attach o.pid) e (ap (λ (z : PostView D). z.work) mine.2) refl refl
               (subst (λ z. IsSomeAnd z (shared.MayAttach limit st.1)) (sym known.0) (refl, lives_, st.3.noticed ∙ (sym it.notice_found ∙ may.0), λ is. let m = may.2 is in let room : sessions_in word < notes.session_limit = m.1 in (st.3.is_open ∙ (sym it.open_found ∙ m.0), omega arith)))
               refl refl refl refl (ap (λ z. z ++ post_step.Attach o.pid ∷ []) (sym (ap (λ (z : PostView D). z.notes.steps) mine.2))) (sym (ap (λ (z : PostView D). z.past) mine.2)))
-              (let l = latch_here _ _ _ _ _ (r.2 k) (running o true) w e mine.2 (r.6.each k mine.0) in let near : k < child_slots (length s.homes) = mine.0 in latches_still _ k (child_slots (length s.homes)) _ s.words r.1 _ r.2 _ (omega arith, omega arith) (ap (λ (z : PostView D). z.notes.cancels) (sym mine.2)) refl refl refl refl record { armed = l.armed; fits = l.fits; standing = l.standing; cancel_is = l.cancel_is; now = hears_met _ _ _ _ _ notes.now (Ok h) l.now (λ h' why is. absurd (cc)) (λ q is. let same : h ≡ q = cc in sym same ∙ (may.1 ∙ (it.generation_found ∙ sym now_is))); past = l.past; unreleased = l.unreleased; named = l.named; keyed = l.keyed; reaches = l.reaches; calls = l.calls } r.6) (seats_step id k s.views r.1 r.2 _ _ _ at (r.3.each_seat id _ at) r.7),
+              (let l = latch_here _ _ _ _ _ (r.2 k) (running o true) w e mine.2 (r.6.each k mine.0) in let near : k < child_slots (length s.homes) = mine.0 in latches_still _ k (child_slots (length s.homes)) _ s.words r.1 _ r.2 _ (omega arith, omega arith) (ap (λ (z : PostView D). z.notes.cancels) (sym mine.2)) refl refl refl refl record { armed = l.armed; fits = l.fits; standing = l.standing; cancel_is = l.cancel_is; now = hears_met notes.session_limit _ _ _ o notes.now (Ok h) l.now (λ h' why is. absurd (cc)) (shown l.unreleased); past = l.past; unreleased = l.unreleased; named = l.named; keyed = l.keyed; reaches = l.reaches; calls = l.calls } r.6) (seats_step id k s.views r.1 r.2 _ _ _ at (r.3.each_seat id _ at) r.7),
           λ o' does. let both : Active o ≡ Active o' = does in let oe : o ≡ o' = cc in
               ((ap (λ (b : Result ℕ GateNo). (Worker k (tried_by w o word b), c)) (sym answer) ∙ (λ i. (Worker k (tried w (oe i) word), c))), subst (λ (z : ℕ). z < 4294967296) (sym it.generation_found) r.4.fits, it.generation_found ∙ (sym now_is ∙ ap (λ (z : Offer D). z.generation) oe)),
         )
@@ -265,7 +302,9 @@ module _ {J D : Type 0} (letter : Letter.Ghosts J D) where
         let now_is : o.generation ≡ r.1.generation = (placed_as letter limit _ _ _ _ (running o true) e (r.3.each_child k mine.0)).0 in
         let told_notice : (h : ℕ) (why : Reason) → ◌≡◌ {A = Option (Result ℕ GateNo)} (Some (Err refusal)) (Some (Err (gate_no.Quit h why))) → NotReleased o.pid r.1.notes.steps → (h ≡ o.generation) × NoticedBefore r.1.notes.steps o.pid why o.generation =
         (λ h why is none. let same : refusal ≡ gate_no.Quit h why = same_refusal refusal (gate_no.Quit h why) is in let met = refused_by (is_session o.kind) notes.session_limit word (notice_in word) h why (answer ∙ ap Err same) in
-        (met.1 ∙ (it.generation_found ∙ sym now_is), noticed_now r.1.notes.steps o.pid why o.generation (subst (λ (z : ℕ). Contains r.1.notes.steps (roster_step.Quit why z)) (sym now_is) (r.6.noticed why (sym it.notice_found ∙ met.0))) none)) in (
+        (met.1 ∙ (it.generation_found ∙ sym now_is), noticed_now r.1.notes.steps o.pid why o.generation (subst (λ (z : ℕ). Contains r.1.notes.steps (roster_step.Quit why z)) (sym now_is) (r.6.noticed why (sym it.notice_found ∙ met.0))) none)) in
+        let shown : IsAssignedBy r.1.notes.steps o → AnsweredBefore (doings r.1.notes.steps notes.session_limit) o (Err refusal) =
+        (λ there. answered_now notes.session_limit r.1.notes.steps o (gate_of r.1) (Err refusal) r.5.4.leave there (sym now_is) (answers o.kind notes.session_limit word (gate_of r.1) (Err refusal) it.generation_found it.notice_found it.open_found answer)) in (
           Worker k w',
           keeps,
           tt,
@@ -275,7 +314,7 @@ module _ {J D : Type 0} (letter : Letter.Ghosts J D) where
               (subst (λ (z : ℕ). GateOk limit (child_slots (length s.homes)) z (gate_of r.1) (put r.2 k (cell s r id k o w w' mine.0 mine.2 refl))) (sym (get_or-set_same s.words (child_slots (length s.homes)) ((word + place_of (is_session o.kind)) % 2 ^ 64) 0 (let wide : length s.words ≡ 3 * child_slots (length s.homes) + 1 = r.3.wide in omega arith)))
               (takes_place s r id k o w w' mine.0 mine.2 refl e lives_ refl (λ test. sym (zero-add (bit (test o.kind)))) (it.generation_found, lives_) (omega arith) (λ shut. let z : S ≡ 0 = r.4.shut shut in omega arith)))
               (quiet limit r.1 r.1 r.2 (child_slots (length s.homes)) k (cell s r id k o w w' mine.0 mine.2 refl) (running o true) (Active o) refl refl refl refl (λ _ z. z) mine.0 e (ap (λ (z : PostView D). z.work) mine.2) (sym (ap (λ (z : PostView D). z.notes.steps) mine.2)) (sym (ap (λ (z : PostView D). z.past) mine.2)) refl (λ _ z. z) r.5)
-              (let l = latch_here _ _ _ _ _ (r.2 k) (running o true) w e mine.2 (r.6.each k mine.0) in let near : k < child_slots (length s.homes) = mine.0 in latches_still _ k (child_slots (length s.homes)) _ s.words r.1 _ r.2 _ (omega arith, omega arith) (ap (λ (z : PostView D). z.notes.cancels) (sym mine.2)) refl refl refl refl record { armed = l.armed; fits = l.fits; standing = l.standing; cancel_is = l.cancel_is; now = hears_met _ _ _ _ _ notes.now (Err refusal) l.now (λ h' why is. told_notice h' why is l.unreleased) (λ q is. absurd (cc)); past = l.past; unreleased = l.unreleased; named = l.named; keyed = l.keyed; reaches = l.reaches; calls = l.calls } r.6) (seats_step id k s.views r.1 r.2 _ _ _ at (r.3.each_seat id _ at) r.7),
+              (let l = latch_here _ _ _ _ _ (r.2 k) (running o true) w e mine.2 (r.6.each k mine.0) in let near : k < child_slots (length s.homes) = mine.0 in latches_still _ k (child_slots (length s.homes)) _ s.words r.1 _ r.2 _ (omega arith, omega arith) (ap (λ (z : PostView D). z.notes.cancels) (sym mine.2)) refl refl refl refl record { armed = l.armed; fits = l.fits; standing = l.standing; cancel_is = l.cancel_is; now = hears_met notes.session_limit _ _ _ o notes.now (Err refusal) l.now (λ h' why is. told_notice h' why is l.unreleased.1) (shown l.unreleased); past = l.past; unreleased = l.unreleased; named = l.named; keyed = l.keyed; reaches = l.reaches; calls = l.calls } r.6) (seats_step id k s.views r.1 r.2 _ _ _ at (r.3.each_seat id _ at) r.7),
           λ o' does. let both : Active o ≡ Active o' = does in let oe : o ≡ o' = cc in
               ((ap (λ (b : Result ℕ GateNo). (Worker k (tried_by w o word b), c)) (sym answer) ∙ (λ i. (Worker k (tried w (oe i) word), c))), subst (λ (z : ℕ). z < 4294967296) (sym it.generation_found) r.4.fits, it.generation_found ∙ (sym now_is ∙ ap (λ (z : Offer D). z.generation) oe)),
         )

@@ -1,18 +1,22 @@
 -- What the seats know of what children heard.
-use Rattle.std.proofs.Common.{◌≡◌, ◌⊎◌, inl, inr, ℕ, zero, suc, ◌+◌, ◌==◌, ◌<◌, ◌≤◌, List, [], ◌∷◌, length, refl, sym, ap, ◌∙◌, subst, arith, append-nil, ne_eqb}
+use Rattle.std.proofs.Common.{◌≡◌, ◌⊎◌, inl, inr, ℕ, zero, suc, ◌+◌, ◌==◌, ◌<◌, ◌≤◌, List, [], ◌∷◌, ◌++◌, length, refl, sym, ap, ◌∙◌, subst, arith, append-nil, ne_eqb}
 use mathlib.Core.Logic.{dite}
 use native.Mathlib.Decide.{ℕ_discrete, dec_le}
 use Rattle.std.{proofs.lemmas.List.get_or_past, specs.{Prelude.{true, false}, List.{Contains, AllByRecursion}}}
 use Rattle.pm_facts.specs.Numbers.{sum_below}
-use Rattle.pm_board.{specs.{declared.views.{Cancel.Cancel, Heard.Heard, PastChild.PastChild, PostNotes.PostNotes, PostView.PostView, RosterStep.RosterStep, RosterView.RosterView, Sight.{Sight, TheVariants.{Unused, Gathered}}, SlotView.SlotView, View.View}, Heard.{HoldsCancel, KnowsCancel, WasMade, IsKnownAtLast, HeardAsSent}, Latches.{HeardRightly, EachHeard, HeardBy, beside, waiting, times_made, WereMade, cancel_at, Latches}, Words.bit, Places.{slot_view, slot_at}, Rule.{Cell, idle_post}, Seats.{is_gathered, HasSeat, held, taken, Seats}}, proofs.Latches.{heard-more, each-map}}
+use Rattle.pm_board.{specs.{declared.views.{Cancel.Cancel, Heard.Heard, Offer.Offer, PastChild.PastChild, PostNotes.PostNotes, PostView.PostView, RosterStep.RosterStep, RosterView.RosterView, Sight.{Sight, TheVariants.{Unused, Gathered}}, SlotView.SlotView, View.View}, Gate.InGeneration, Heard.{HoldsCancel, KnowsCancel, WasMade, IsKnownAtLast, HeardAsSent}, Latches.{Doings, doings, doings_of, HeardRightly, EachHeard, HeardBy, beside, waiting, times_made, WereMade, cancel_at, Latches}, Words.bit, Places.{slot_view, slot_at}, Rule.{Cell, idle_post}, Seats.{is_gathered, HasSeat, held, taken, Seats}}, proofs.Latches.{heard-more, each-map}}
 use Rattle.pm_keys.specs.CancelKey.{cancel_key}
 
-module _ (steps : List RosterStep) (before after : ℕ → ℕ → Type 0) (grow : (pid times : ℕ) → before pid times → after pid times) where
-  pub heard_known : (pid g : ℕ) (h : Heard) → HeardRightly steps before pid g h → HeardRightly steps after pid g h
-  heard_known pid g h r = subst (λ (z : List RosterStep). HeardRightly z after pid g h) (append-nil steps) (heard-more steps [] before after grow pid g h r)
+module _ {D : Type 0} (steps : List RosterStep) (limit limit' : ℕ) (same : limit ≡ limit') (before after : ℕ → ℕ → Type 0) (grow : (pid times : ℕ) → before pid times → after pid times) where
+  pub heard_known : (o : Offer D) (h : Heard) → HeardRightly (doings steps limit) before o h → HeardRightly (doings steps limit') after o h
+  heard_known o h r = subst (λ (z : Doings). HeardRightly z after o h) {x = doings (steps ++ []) limit} {y = doings steps limit'} (λ i. doings (append-nil steps i) (same i)) (heard-more limit steps [] before after grow o h r)
 
-  pub each_known : {D : Type 0} (past : List (PastChild D)) (hs : List Heard) → EachHeard (HeardBy steps before) past hs → EachHeard (HeardBy steps after) past hs
-  each_known past hs all = each-map _ _ (λ x h r. heard_known x.offer.pid x.offer.generation h r) past hs all
+  pub each_known : (past : List (PastChild D)) (hs : List Heard) → EachHeard (HeardBy (doings steps limit) before) past hs → EachHeard (HeardBy (doings steps limit') after) past hs
+  each_known past hs all = each-map _ _ (λ x h r. heard_known x.offer h r) past hs all
+
+-- every worker goes by the supervisor's limit of sessions
+pub same_limit : {D : Type 0} (limit g : ℕ) (d : RosterView D) (cells : ℕ → Cell D) → ((k : ℕ) → InGeneration limit g (cells k).post) → ((k : ℕ) → d.dealt ≤ k → (cells k).post ≡ idle_post d.session_limit) → (k : ℕ) → (cells k).post.notes.session_limit ≡ d.session_limit
+same_limit {D} limit g d cells current new_posts k = (current k).limit_is ∙ (sym (current d.dealt).limit_is ∙ ap (λ (z : PostView D). z.notes.session_limit) (new_posts d.dealt (omega arith)))
 
 -- where there are cancels for a pid there is one
 some_cancel : (P : Cancel → Type 0) (pid : ℕ) (xs : List Cancel) → AllByRecursion P xs → 0 < times_made pid xs → (x : Cancel) × Contains xs x × (x.pid ≡ pid) × P x
@@ -61,9 +65,9 @@ module _ {D : Type 0} (views : List (View D)) (n : ℕ) (words : List ℕ) (d : 
   known_at_last pid times made all pos = let w = made_by pid times pos made in let x = w.2 in let l : w.0 < length d.slots = subst (λ (m : ℕ). w.0 < m) (sym many) w.1 in
       (x.0, (x.2, x.3), (w.0, (cells w.0).post.past, (cells w.0).post.notes, gathered_is w.0 (all w.0 l), x.1))
 
-  pub heard_as_sent : HeardAsSent d
-  heard_as_sent k past notes is = dite (dec_le (k + 1) n)
+  pub heard_as_sent : ((k : ℕ) → (cells k).post.notes.session_limit ≡ d.session_limit) → HeardAsSent d
+  heard_as_sent limits k past notes is = dite (dec_le (k + 1) n)
       (λ l. let same : Gathered past notes ≡ Gathered (cells k).post.past (cells k).post.notes = sym is ∙ gathered_is k (ap is_gathered is) in let p : (cells k).post.past ≡ past = cc in let q : (cells k).post.notes ≡ notes = cc in
-      subst (λ (z : List (PastChild D) × PostNotes). EachHeard (HeardBy d.notes.steps (IsKnownAtLast d)) z.0 z.1.heard) {x = ((cells k).post.past, (cells k).post.notes)} {y = (past, notes)} (λ i. (p i, q i))
-      (each_known d.notes.steps (beside (WereMade n cells) (cancel_at n words k)) (IsKnownAtLast d) (λ pid times made. known_at_last pid times (let m : times + waiting (cancel_at n words k) pid ≤ sum_below n (λ j. times_made pid (cells j).post.notes.cancels) = made in omega arith)) (cells k).post.past (cells k).post.notes.heard (la.each k (omega arith)).past))
+      subst (λ (z : List (PastChild D) × PostNotes). EachHeard (HeardBy (doings_of d) (IsKnownAtLast d)) z.0 z.1.heard) {x = ((cells k).post.past, (cells k).post.notes)} {y = (past, notes)} (λ i. (p i, q i))
+      (each_known d.notes.steps (cells k).post.notes.session_limit d.session_limit (limits k) (beside (WereMade n cells) (cancel_at n words k)) (IsKnownAtLast d) (λ pid times made. known_at_last pid times (let m : times + waiting (cancel_at n words k) pid ≤ sum_below n (λ j. times_made pid (cells j).post.notes.cancels) = made in omega arith)) (cells k).post.past (cells k).post.notes.heard (la.each k (omega arith)).past))
       (λ no. let out : slot_at d k ≡ slot_view [] Unused = get_or_past d.slots k (slot_view [] Unused) (omega arith) in let no_ : Unused ≡ Gathered past notes = sym (ap (λ (z : SlotView D). z.sight) out) ∙ is in absurd (cc))

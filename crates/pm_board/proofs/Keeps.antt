@@ -10,7 +10,7 @@ use Rattle.std.{proofs.lemmas.List.Elements.Contains-append_left, specs.Prelude.
 use Rattle.atomic_table.{specs.Table.{step, keeps, takes, gives, stepped, opening, Allows, Joins}, proofs.Lists.{at_set, set_here, set_else, set_again}}
 use Rattle.pm_facts.specs.Lists.{at_end, same_everywhere}
 use Rattle.pm_exit.specs.declared.child.Status.{Status, TheVariants.Code}
-use Rattle.pm_board.{specs.{Slots.{child_slots, is_slot}, declared.views.{Offer.Offer, PastChild.PastChild, PostNotes.PostNotes, PostStep.TheVariants.Exit, RosterNotes.RosterNotes, RosterStep.{RosterStep, TheVariants.{Assign, Release}}, Sight.TheVariants.{Unused, Opened, Assigned, Exited, Collected, Gathered}, SlotView.SlotView, RosterView.RosterView, Work.{Work, TheVariants.{Idle, Sees, Inactive, Active, Refused, Attached}}, PostView.PostView, View.{View, TheVariants.{Postmaster, Worker, Spent}}}, Words.{bit, kind_number, kind_of, signal_bit, status_number, exit_step, stage_in, active_in, status_in, FitsWord}, Places.{slot_view, slot_at, is_auxiliary, lost, SlotServes, EndsWell}, Rule.{at_put, put, Phase, unused, opened, offered, running, ended, collected, gathered, child_word, offer_word, word_of, Seen, Does, OfChild, OfLiving, IsPlaced, used_pid, PidsOk, Cell, SlotOk, Agrees, Holds, idle_post}, Gate.{GateOk, gate_of}, Latch.{latch_place, cancel_place}, Latches.{times_sent, WereMade, cancel_at, Latches}, Seats.is_gathered, History.Kept, Told.{MayEnd, Assigns, Loads, Starts, Ends, Looks, Releases, Clears, Compares, post_view, past_child, with_slot, noted_assign, noted_release, noted_look, noted_load, noted_start, noted_exit, assigned_slot, running_slot, exited_slot, dealt_more, next_post, with_post, taken_in, newcomer, new_roster}}, proofs.{Bits.{kind_small, kind_again, active_again, status_read, packed_small, same_exit}, Gates.{uncounted, uncounted_by, gate_moves, ended_counts, once_still, once_offered, once_ended, first_gate_ok}, Moves.{rebased, master_step, worker_step, St}, Passes.lives, Latches.{not_released-append, assign_is_no_release, release_is_other, unreleased_all, each-append, hears_first, latch_here, latches_pass, latches_still, first_latches}, Seats.{seats_step, seats_turn, seats_dealt, seats_gathered}, Hearing.heard_as_sent, Histories.{kept, same_history, own_release, quiet, leaves, joins, first_history, others_stay}}}
+use Rattle.pm_board.{specs.{Slots.{child_slots, is_slot}, declared.views.{Offer.Offer, PastChild.PastChild, PostNotes.PostNotes, PostStep.TheVariants.Exit, RosterNotes.RosterNotes, RosterStep.{RosterStep, TheVariants.{Assign, Release}}, Sight.TheVariants.{Unused, Opened, Assigned, Exited, Collected, Gathered}, SlotView.SlotView, RosterView.RosterView, Work.{Work, TheVariants.{Idle, Sees, Inactive, Active, Refused, Attached}}, PostView.PostView, View.{View, TheVariants.{Postmaster, Worker, Spent}}}, Words.{bit, kind_number, kind_of, signal_bit, status_number, exit_step, stage_in, active_in, status_in, FitsWord}, Places.{slot_view, slot_at, is_auxiliary, lost, SlotServes, EndsWell}, Rule.{at_put, put, Phase, unused, opened, offered, running, ended, collected, gathered, child_word, offer_word, word_of, Seen, Does, OfChild, OfLiving, IsPlaced, used_pid, PidsOk, Cell, SlotOk, Agrees, Holds, idle_post}, Gate.{GateOk, gate_of}, Latch.{latch_place, cancel_place}, Latches.{times_sent, WereMade, latch_at, cancel_at, Latches}, Seats.is_gathered, History.Kept, Told.{MayEnd, Assigns, Loads, Starts, Ends, Looks, Releases, Clears, Compares, post_view, past_child, with_slot, noted_assign, noted_release, noted_look, noted_load, noted_start, noted_exit, assigned_slot, running_slot, exited_slot, dealt_more, next_post, with_post, taken_in, newcomer, new_roster}}, proofs.{Bits.{kind_small, kind_again, active_again, status_read, packed_small, same_exit}, Gates.{uncounted, uncounted_by, gate_moves, ended_counts, once_still, once_offered, once_ended, first_gate_ok}, Moves.{rebased, master_step, worker_step, St}, Passes.lives, Latches.{at_last, reach-more, not_released-append, assign_is_no_release, release_is_other, unreleased_all, each-append, hears_first, latch_stepped, latch_released, latch_here, latches_pass, latches_still, first_latches}, Seats.{seats_step, seats_turn, seats_dealt, seats_gathered}, Hearing.{same_limit, heard_as_sent}, Histories.{kept, same_history, own_release, quiet, leaves, joins, first_history, others_stay}}}
 use Rattle.pm_board.specs.declared.views.Letter as Letter
 
 pub grown : (x a y : ℕ) → x + a ≡ y → y < 18446744073709551616 → (x + a) % 2 ^ 64 ≡ y
@@ -214,11 +214,11 @@ module _ {J D : Type 0} (letter : Letter.Ghosts J D) (limit : ℕ) where
             (now, subst (λ (z : ℕ). SlotServes z k o.kind) (sym (ap child_slots wide)) serves)
             (pids_set d k x notes (omega arith) h.pids (omega arith) (omega arith) (λ i ne pos e. let b : used_pid (slot_at d i).sight ≤ d.notes.last_pid = h.pids.below i in absurd (omega arith)))) (ap child_slots (length-set s.homes k (some (Some j))))
             (gate_moves limit _ k _ s.words (gate_of d) r.2 _ _ near' refl (uncounted _ _ _) (once_offered _ (r.2 k) o _ (subst (λ (z : List (PastChild D)). is_auxiliary o.kind ≡ true → lost is_auxiliary d.generation z ≡ 0) (sym (ok.lists ∙ append-nil (slot_at d k).past)) alone) (both.0.once k)) both.0) (joins letter limit s id d _ r.2 h st refl refl refl k near' o _ o.pid ph refl now new refl refl refl)
-            (let l = latch_here _ _ _ _ _ (r.2 k) (opened o.pid) (r.2 k).post ph refl (both.2.each k near') in let t : RosterStep = Assign k o.pid o.kind o.generation in
-            latches_pass _ k k _ s.words d _ r.2 _ (omega arith, omega arith) refl (t ∷ []) refl (λ _ _. refl) (omega arith) (λ i _ _. unreleased_all _ (r.2 i).phase (λ p. assign_is_no_release k p.pid o.pid o.generation o.kind)) (assign_is_no_release k o.pid o.pid o.generation o.kind)
+            (let t : RosterStep = Assign k o.pid o.kind o.generation in let l = latch_stepped d.notes.steps (t ∷ []) _ _ _ _ (opened o.pid) _ _ tt tt (latch_here _ _ _ _ _ (r.2 k) (opened o.pid) (r.2 k).post ph refl (both.2.each k near')) in
+            latches_pass _ k k _ s.words d _ r.2 _ (omega arith, omega arith) refl (t ∷ []) refl (λ _ _. refl) (omega arith) (λ i _ _. unreleased_all _ (r.2 i).phase (λ p. assign_is_no_release k p.pid o.pid o.generation o.kind))
             (λ why is. Contains-append_left d.notes.steps (t ∷ []) _ (both.2.noticed why is))
             (λ q above. not_released-append q d.notes.steps (t ∷ []) (both.2.fresh q (let up : o.pid < q = above in omega arith)) (assign_is_no_release k q o.pid o.generation o.kind))
-            record { armed = l.armed; fits = l.fits; standing = l.standing; cancel_is = l.cancel_is; now = tt; past = l.past; unreleased = both.2.fresh o.pid new; named = (omega arith); keyed = l.keyed; reaches = (λ number _ sent. let none_ : times_sent number o.pid d.notes.steps ≡ 0 = both.2.unsent o.pid new number in absurd (omega arith)); calls = both.2.ahead k near' o.pid new } both.2) (seats_turn id k s.views d r.2 _ _ _ at (omega arith) (ap is_gathered is) refl both.3),
+            record { armed = l.armed; fits = l.fits; standing = l.standing; cancel_is = l.cancel_is; now = tt; past = l.past; unreleased = ((k, at_last d.notes.steps t), not_released-append o.pid d.notes.steps (t ∷ []) (both.2.fresh o.pid new) (assign_is_no_release k o.pid o.pid o.generation o.kind)); named = (omega arith); keyed = l.keyed; reaches = reach-more d.notes.steps (t ∷ []) (latch_at (child_slots (length s.homes)) s.words k) o.pid [] (λ _. refl) (λ number _ sent. let none_ : times_sent number o.pid d.notes.steps ≡ 0 = both.2.unsent o.pid new number in absurd (omega arith)); calls = both.2.ahead k near' o.pid new } both.2) (seats_turn id k s.views d r.2 _ _ _ at (omega arith) (ap is_gathered is) refl both.3),
         λ j' o' same word now' gave'. let e : j ≡ j' = held k k j j' same in let oe = same_offer o o' word (now ∙ sym now') (gave ∙ (ap letter.told e ∙ sym gave')) in λ i. (Postmaster (with_slot d k (assigned_slot (slot_at d k) (oe i)) (noted_assign d.notes k (oe i))), []),
       )
     where
@@ -305,10 +305,10 @@ module _ {J D : Type 0} (letter : Letter.Ghosts J D) (limit : ℕ) where
             (pids_keep d k x notes (omega arith) h.pids refl (ap used_pid (sym is)))) (ap child_slots (length-set s.homes k none)) (gate_moves limit _ k _ s.words (gate_of d) r.2 _ _ near' refl (uncounted _ _ _) (once_still _ (r.2 k) (collected o t a) _ _ refl (λ _ _. tt) (both.0.once k)) both.0) (quiet limit d _ r.2 (child_slots (length s.homes)) k _ (ended o t a b) _ refl refl refl refl (λ log own. own_release log d.notes.steps (gate_of d) o.pid o.generation o.kind own) near' e.1 refl refl refl refl (λ _ _. tt) st)
             (let l = latch_here _ _ _ _ _ (r.2 k) (ended o t a b) (r.2 k).post e.1 refl (both.2.each k near') in let t : RosterStep = Release o.pid o.kind o.generation in
             let top : o.pid ≤ d.notes.last_pid = let low_ : used_pid (slot_at d k).sight ≤ d.notes.last_pid = h.pids.below k in let here_ : used_pid (slot_at d k).sight ≡ o.pid = ap used_pid is in omega arith in
-            latches_pass _ k k _ s.words d _ r.2 _ (omega arith, omega arith) refl (t ∷ []) refl (λ _ _. refl) (omega arith) (λ i l' ne. others_stay letter limit s id d r.2 h k i l' ne o.pid o.generation o.kind l.named (ap used_pid is)) tt
+            latches_pass _ k k _ s.words d _ r.2 _ (omega arith, omega arith) refl (t ∷ []) refl (λ _ _. refl) (omega arith) (λ i l' ne. others_stay letter limit s id d r.2 h k i l' ne o.pid o.generation o.kind l.named (ap used_pid is))
             (λ why is'. Contains-append_left d.notes.steps (t ∷ []) _ (both.2.noticed why is'))
             (λ q above. not_released-append q d.notes.steps (t ∷ []) (both.2.fresh q above) (release_is_other q o.pid o.generation o.kind (λ same. absurd (let up : d.notes.last_pid < q = above in omega arith))))
-            record { armed = l.armed; fits = l.fits; standing = l.standing; cancel_is = l.cancel_is; now = tt; past = l.past; unreleased = tt; named = tt; keyed = l.keyed; reaches = tt; calls = tt } both.2) (seats_turn id k s.views d r.2 _ _ _ at (omega arith) (ap is_gathered is) refl both.3),
+            (latch_released d.notes.steps (t ∷ []) _ _ _ _ o _ _ b _ _ l) both.2) (seats_turn id k s.views d r.2 _ _ _ at (omega arith) (ap is_gathered is) refl both.3),
         λ o' t' a' is'. let same : Exited o t a ≡ Exited o' t' a' = sym is ∙ is' in let oe : o ≡ o' = cc in let te : t ≡ t' = cc in let ae : a ≡ a' = cc in (
           shows ∙ (λ i. child_word 3 (oe i) (te i) (ae i)),
           subst (λ (z : Offer D). z.pid < 2147483648) oe low,
@@ -357,7 +357,7 @@ module _ {J D : Type 0} (letter : Letter.Ghosts J D) (limit : ℕ) where
         kept letter limit _ _ _ _ _ (worker_step letter s id k k ((word + 1) % 2 ^ 64) (set s.homes k none) near refl (ap child_slots (length-set s.homes k none)) (λ i other. set_else s.homes k i none other) r.0 r.1 r.2 r.3 w w' (running o false) at
             record { shows = grown word 1 (child_word 2 o (Code 0) false) (omega arith) (omega arith); fits = low; seen = ok.seen; does = (refl, refl); lists = ok.lists; there = none; there_is = set_here s.homes k none (is_slot _ k near); mail = tt }
             (placed_as _ _ _ _ (offered o) e.2 (r.3.each_child k mine.0))) (ap child_slots (length-set s.homes k none)) (gate_moves limit _ k _ s.words (gate_of r.1) r.2 _ w mine.0 mine.2 (uncounted_by _ _ _ _ _ _ _ refl refl refl) (once_still _ (r.2 k) (running o false) _ w' (sym past_is) (λ P z. subst (OfLiving P) e.2 z) (r.4.once k)) r.4) (quiet limit r.1 r.1 r.2 (child_slots (length s.homes)) k _ (offered o) (Sees saw) refl refl refl refl (λ _ o. o) mine.0 e.2 does_is (sym steps_is) (sym past_is) refl (λ _ z. z) r.5)
-            (let l = latch_here _ _ _ _ _ (r.2 k) (offered o) w e.2 mine.2 (r.6.each k near) in latches_still _ k k _ s.words r.1 _ r.2 _ (omega arith, omega arith) (ap (λ (z : PostView D). z.notes.cancels) (sym mine.2)) refl refl refl refl record { armed = l.armed; fits = l.fits; standing = l.standing; cancel_is = l.cancel_is; now = hears_first r.1.notes.steps (WereMade (child_slots (length s.homes)) r.2) _ _ o.generation (cancel_at (child_slots (length s.homes)) s.words k) (λ _. omega arith) l.cancel_is l.armed l.standing; past = l.past; unreleased = l.unreleased; named = l.named; keyed = l.keyed; reaches = l.reaches; calls = (λ made. inl (l.calls made)) } r.6) (seats_step id k s.views r.1 r.2 _ _ _ at (r.3.each_seat id _ at) r.7),
+            (let l = latch_here _ _ _ _ _ (r.2 k) (offered o) w e.2 mine.2 (r.6.each k near) in latches_still _ k k _ s.words r.1 _ r.2 _ (omega arith, omega arith) (ap (λ (z : PostView D). z.notes.cancels) (sym mine.2)) refl refl refl refl record { armed = l.armed; fits = l.fits; standing = l.standing; cancel_is = l.cancel_is; now = hears_first notes.session_limit r.1.notes.steps (WereMade (child_slots (length s.homes)) r.2) _ o (cancel_at (child_slots (length s.homes)) s.words k) (λ _. omega arith) l.cancel_is l.armed l.standing; past = l.past; unreleased = l.unreleased; named = l.named; keyed = l.keyed; reaches = l.reaches; calls = (λ made. inl (l.calls made)) } r.6) (seats_step id k s.views r.1 r.2 _ _ _ at (r.3.each_seat id _ at) r.7),
         λ saw' sees. let same : saw ≡ saw' = cc in (o, j, sym same ∙ e.1, low, ok.mail.2, refl, ok.mail.3),
       )
 
@@ -392,7 +392,7 @@ module _ {J D : Type 0} (letter : Letter.Ghosts J D) (limit : ℕ) where
   pub compares : (n id k : ℕ) (d : RosterView D) → k < child_slots n → Allows (Kept letter limit) n id (Postmaster d, []) k (λ x. x) (Compares (step n k 0 0 none) (Postmaster d, []))
   compares n id k d near s r wide at _ = let h = rebased letter s r.0 id d r.1 r.2 r.3 at in let near' : k < child_slots (length s.homes) = subst (λ (m : ℕ). k < child_slots m) (sym wide) near in
       let both = same_history letter limit s r.0 id d r.1 r.2 r.3 at r.4 r.5 r.6 r.7 in let was = h.each_slot k near' in
-      (Postmaster d, keeps, tt, stays s k id (Postmaster d) at r, (refl, (λ xs notes is. see_gathered _ _ xs notes (subst (Seen (r.2 k).phase (slot_at d k).past) is was.seen)), heard_as_sent s.views (child_slots (length s.homes)) s.words d r.2 both.2 both.3 h.new_posts h.many))
+      (Postmaster d, keeps, tt, stays s k id (Postmaster d) at r, (refl, (λ xs notes is. see_gathered _ _ xs notes (subst (Seen (r.2 k).phase (slot_at d k).past) is was.seen)), heard_as_sent s.views (child_slots (length s.homes)) s.words d r.2 both.2 both.3 h.new_posts h.many (same_limit limit d.generation d r.2 both.0.current h.new_posts)))
     where
       -- a step that changes nothing
       stays : (s : St letter) (k id : ℕ) (v : View D) → get_elem? s.views id ≡ some v → Kept letter limit s → Kept letter limit (stepped s k (get_or s.words k 0) id [] v keeps)

@@ -2,12 +2,12 @@
 use Rattle.std.proofs.Common.{◌≡◌, ◌≢◌, ℕ, zero, suc, ◌+◌, ◌<◌, ◌≤◌, List, [], ◌∷◌, ◌++◌, length, set, refl, sym, ap, ◌∙◌, subst, ⊎_elim, arith, append-nil, get_or-set_other, ◌==◌, eq-eqb, ne_eqb}
 use mathlib.Core.Logic.{dite}
 use native.Mathlib.Decide.{ℕ_discrete}
-use Rattle.std.{proofs.lemmas.{List.{append_assoc, Elements.{Contains-append_left, Contains-append_right, Contains-append_cases}}, Nat.Bits.bit_at-zero}, specs.{Prelude.{Bool, ◌&&◌, Some, None, Result, Ok, Err, slice_index_or}, Int.bit_at, List.{Contains, AllByRecursion}}}
+use Rattle.std.{proofs.lemmas.{List.{append_assoc, Elements.{Contains-append_left, Contains-append_right, Contains-append_cases}}, Nat.Bits.bit_at-zero}, specs.{Prelude.{Bool, ◌&&◌, Some, None, Result, Err, slice_index_or}, Int.bit_at, List.{Contains, AllByRecursion}}}
 use Rattle.pm_facts.specs.Numbers.{sum_below}
-use Rattle.pm_supervisor.specs.{pm_exit.declared.child.Kind.Kind, declared.Reason.Reason}
+use Rattle.pm_supervisor.specs.{pm_exit.declared.child.{Kind.Kind, Status.Status}, declared.Reason.Reason}
 use Rattle.pm_child_life.specs.declared.life.{GateNo.GateNo, Signals.Signals}
 use Rattle.pm_child_life.specs.declared.life.GateNo.TheVariants as gate_no
-use Rattle.pm_board.{specs.{declared.views.{Heard.Heard, Offer.Offer, PastChild.PastChild, PostView.PostView, RosterStep.{RosterStep, TheVariants.{Assign, Release, Quit, Ready, Reset, Send}}, RosterView.RosterView, Signal.Signal}, Words.bit, Latch.{latch_pid, signal_number}, Latches.{times_made_on, made_on, CallsIn, LatchesOf, is_send, times_sent, times_given, NotSent, Reaches, ReachesIn, NotReleased, NoticedBefore, HeardRightly, HearsRightly, OfRunning, OfUnreleased, EachHeard, beside, waiting, times_told, times_made, WereMade, LatchOk, latch_at, cancel_at, Latches}, Rule.{Phase, unused, opened, offered, running, ended, collected, gathered, Cell, put, at_put, no_signals, idle_post}}, proofs.{Counts.count_moves, BoardLaws.sent-append}}
+use Rattle.pm_board.{specs.{declared.views.{Heard.Heard, Offer.Offer, PastChild.PastChild, PostView.PostView, RosterStep.{RosterStep, TheVariants.{Assign, Release, Quit, Ready, Reset, Send}}, RosterView.RosterView, Signal.Signal}, Words.bit, Gate.{Gate, GateAnswers, first_gate, gate_of_steps}, Latch.{latch_pid, signal_number}, Latches.{times_made_on, made_on, CallsIn, LatchesOf, is_send, times_sent, times_given, NotSent, Reaches, ReachesIn, NotReleased, NoticedBefore, IsAssignedBy, AnsweredBefore, doings, HeardRightly, HearsRightly, OfRunning, OfUnreleased, EachHeard, beside, waiting, times_told, times_made, WereMade, LatchOk, latch_at, cancel_at, Latches}, Rule.{Phase, unused, opened, offered, running, ended, collected, gathered, Cell, put, at_put, no_signals, idle_post}}, proofs.{Counts.count_moves, BoardLaws.sent-append}}
 
 -- lists
 
@@ -52,7 +52,7 @@ unsent-append last last' steps steps' zs more up none was pid above number = let
     ap (times_sent number pid) more ∙ (let z : times_sent number pid (steps ++ zs) ≡ 0 = omega arith in z)
 
 -- what stands stays where others are sent signals
-reach-more : (xs ys : List RosterStep) (latch pid : ℕ) (given : List Signals) → NotSent pid ys → Reaches xs latch pid given → Reaches (xs ++ ys) latch pid given
+pub reach-more : (xs ys : List RosterStep) (latch pid : ℕ) (given : List Signals) → NotSent pid ys → Reaches xs latch pid given → Reaches (xs ++ ys) latch pid given
 reach-more xs ys latch pid given none r number small sent = let e : times_sent number pid (xs ++ ys) ≡ times_sent number pid xs + times_sent number pid ys = sent-append number pid xs ys in
     let z : times_sent number pid ys ≡ 0 = none number in r number small (omega arith)
 
@@ -88,38 +88,52 @@ pub noticed_now : (xs : List RosterStep) (pid : ℕ) (why : Reason) (g : ℕ) �
 noticed_now xs pid why g h none = let t = split xs (Quit why g) h in
     (t.0, t.1, t.2, λ kind h' c. none kind h' (subst (λ z. Contains z (Release pid kind h')) (sym t.2) (Contains-append_left t.0 (Quit why g ∷ t.1) _ c)))
 
-module _ (xs ys : List RosterStep) (before after : ℕ → ℕ → Type 0) (grow : (pid times : ℕ) → before pid times → after pid times) where
-  pub heard-more : (pid g : ℕ) (h : Heard) → HeardRightly xs before pid g h → HeardRightly (xs ++ ys) after pid g h
-  heard-more pid g h r = record {
-    sent = λ number. subst (λ (z : ℕ). times_given number h.given ≤ z) (sym (sent-append number pid xs ys)) (omega (arith, r.sent number));
-    cancels = grow pid (times_told h.given + bit h.heeded) r.cancels;
-    met = λ g' why e. let m = r.met g' why e in (m.0, noticed-append xs ys pid why g m.1);
-    let_in = r.let_in;
-  }
+pub assigned-append : {D : Type 0} (xs ys : List RosterStep) (o : Offer D) → IsAssignedBy xs o → NotReleased o.pid ys → IsAssignedBy (xs ++ ys) o
+assigned-append xs ys o h none = ((h.0.0, Contains-append_left xs ys _ h.0.1), not_released-append o.pid xs ys h.1 none)
 
-  pub hears-more : (latch pid g : ℕ) (h : Heard) → HearsRightly xs before latch pid g h → HearsRightly (xs ++ ys) after latch pid g h
-  hears-more latch pid g h r = record {
-    so_far = heard-more pid g h r.so_far;
-    still = λ number small. subst (λ (z : ℕ). times_given number h.given + bit_at latch number ≤ z) (sym (sent-append number pid xs ys)) (omega (arith, r.still number small));
-  }
+module _ {D : Type 0} (limit : ℕ) where
+  answered-append : (xs ys : List RosterStep) (o : Offer D) (answer : Result ℕ GateNo) → AnsweredBefore (doings xs limit) o answer → AnsweredBefore (doings (xs ++ ys) limit) o answer
+  answered-append xs ys o answer h = (h.0, h.1 ++ ys, ap (λ z. z ++ ys) h.2 ∙ append_assoc h.0 h.1 ys, h.3, h.4, h.5)
+
+  -- what the gate answers a child that isn't released stands before its release
+  pub answered_now : (steps : List RosterStep) (o : Offer D) (gate : Gate) (answer : Result ℕ GateNo) → gate_of_steps first_gate steps ≡ gate → IsAssignedBy steps o → gate.generation ≡ o.generation → GateAnswers limit o.kind gate answer → AnsweredBefore (doings steps limit) o answer
+  answered_now steps o gate answer leave there own is = (steps, [], sym (append-nil steps), there, ap (λ (z : Gate). z.generation) leave ∙ own, subst (λ (z : Gate). GateAnswers limit o.kind z answer) (sym leave) is)
+
+  module _ (xs ys : List RosterStep) (before after : ℕ → ℕ → Type 0) (grow : (pid times : ℕ) → before pid times → after pid times) where
+    pub heard-more : (o : Offer D) (h : Heard) → HeardRightly (doings xs limit) before o h → HeardRightly (doings (xs ++ ys) limit) after o h
+    heard-more o h r = record {
+      sent = λ number. subst (λ (z : ℕ). times_given number h.given ≤ z) (sym (sent-append number o.pid xs ys)) (let was : times_given number h.given ≤ times_sent number o.pid xs = r.sent number in omega arith);
+      cancels = grow o.pid (times_told h.given + bit h.heeded) r.cancels;
+      met = λ g why e. let m = r.met g why e in (m.0, noticed-append xs ys o.pid why o.generation m.1);
+      shown = λ answer e. answered-append xs ys o answer (r.shown answer e);
+    }
+
+    pub hears-more : (latch : ℕ) (o : Offer D) (h : Heard) → HearsRightly (doings xs limit) before latch o h → HearsRightly (doings (xs ++ ys) limit) after latch o h
+    hears-more latch o h r = record {
+      so_far = heard-more o h r.so_far;
+      still = λ number small. subst (λ (z : ℕ). times_given number h.given + bit_at latch number ≤ z) (sym (sent-append number o.pid xs ys)) (let was : times_given number h.given + bit_at latch number ≤ times_sent number o.pid xs = r.still number small in omega arith);
+    }
 
 -- the words after the gate's stay where another word changes
 far : (n j i word : ℕ) (words : List ℕ) → i ≤ n → (latch_at n (set words i word) j ≡ latch_at n words j) × (cancel_at n (set words i word) j ≡ cancel_at n words j)
 far n j i word words le = (get_or-set_other words i (n + 1 + j) word 0 (λ e. absurd (omega arith)), get_or-set_other words i (n + 1 + n + j) word 0 (λ e. absurd (omega arith)))
 
+same_answer : (a b : Result ℕ GateNo) → Some a ≡ Some b → a ≡ b
+same_answer a b e = cc
+
 -- a child that has gone to the gate
-pub hears_met : (steps : List RosterStep) (x : ℕ → ℕ → Type 0) (latch pid g : ℕ) (h : Heard) (answer : Result ℕ GateNo) → HearsRightly steps x latch pid g h → ((q : ℕ) (why : Reason) → Some answer ≡ Some (Err (gate_no.Quit q why)) → (q ≡ g) × NoticedBefore steps pid why g)
-    → ((q : ℕ) → Some answer ≡ Some (Ok q) → q ≡ g)
-    → HearsRightly steps x latch pid g record h { met = Some answer }
-hears_met steps x latch pid g h answer r met let_in = record {
-  so_far = record { sent = r.so_far.sent; cancels = r.so_far.cancels; met = met; let_in = let_in };
+pub hears_met : {D : Type 0} (limit : ℕ) (steps : List RosterStep) (x : ℕ → ℕ → Type 0) (latch : ℕ) (o : Offer D) (h : Heard) (answer : Result ℕ GateNo) → HearsRightly (doings steps limit) x latch o h → ((q : ℕ) (why : Reason) → Some answer ≡ Some (Err (gate_no.Quit q why)) → (q ≡ o.generation) × NoticedBefore steps o.pid why o.generation)
+    → AnsweredBefore (doings steps limit) o answer
+    → HearsRightly (doings steps limit) x latch o record h { met = Some answer }
+hears_met limit steps x latch o h answer r met shown = record {
+  so_far = record { sent = r.so_far.sent; cancels = r.so_far.cancels; met = met; shown = λ told e. subst (AnsweredBefore (doings steps limit) o) (same_answer answer told e) shown };
   still = r.still;
 }
 
 -- a child that has just started has heard nothing
-pub hears_first : (steps : List RosterStep) (x : ℕ → ℕ → Type 0) (latch pid q cancel : ℕ) → ((p : ℕ) → x p 0) → (0 < cancel → x cancel 1) → latch_pid latch ≡ pid → ((number : ℕ) → number < 5 → bit_at latch number ≤ times_sent number (latch_pid latch) steps) → HearsRightly steps (beside x cancel) latch pid q no_signals
-hears_first steps x latch pid q cancel none made is standing = record {
-  so_far = record { sent = λ number. omega arith; cancels = first cancel pid x none made; met = λ h why e. absurd (cc); let_in = λ h e. absurd (cc) };
+pub hears_first : {D : Type 0} (limit : ℕ) (steps : List RosterStep) (x : ℕ → ℕ → Type 0) (latch : ℕ) (o : Offer D) (cancel : ℕ) → ((p : ℕ) → x p 0) → (0 < cancel → x cancel 1) → latch_pid latch ≡ o.pid → ((number : ℕ) → number < 5 → bit_at latch number ≤ times_sent number (latch_pid latch) steps) → HearsRightly (doings steps limit) (beside x cancel) latch o no_signals
+hears_first limit steps x latch o cancel none made is standing = record {
+  so_far = record { sent = λ number. omega arith; cancels = first cancel o.pid x none made; met = λ h why e. absurd (cc); shown = λ told e. absurd (cc) };
   still = λ number small. subst (λ (z : ℕ). 0 + bit_at latch number ≤ times_sent number z steps) is (omega (arith, standing number small));
 }
   where
@@ -200,14 +214,24 @@ module _ {D : Type 0} where
     fits = ok.fits;
     standing = λ number small. subst (λ (z : ℕ). bit_at latch number ≤ z) (sym (sent-append number (latch_pid latch) xs ys)) (omega (arith, ok.standing number small));
     cancel_is = λ pos. grow cancel 1 (ok.cancel_is pos);
-    now = running_map _ _ c.phase (λ o h. hears-more xs ys (beside before cancel) (beside after cancel) (λ pid times. grow pid (times + waiting cancel pid)) latch o.pid o.generation c.post.notes.now h) ok.now;
-    past = each-map _ _ (λ x h r. heard-more xs ys (beside before cancel) (beside after cancel) (λ pid times. grow pid (times + waiting cancel pid)) x.offer.pid x.offer.generation h r) c.post.past c.post.notes.heard ok.past;
-    unreleased = unreleased_both _ _ _ c.phase (λ o a b. not_released-append o.pid xs ys a b) ok.unreleased none;
+    now = running_map _ _ c.phase (λ o h. hears-more c.post.notes.session_limit xs ys (beside before cancel) (beside after cancel) (λ pid times. grow pid (times + waiting cancel pid)) latch o c.post.notes.now h) ok.now;
+    past = each-map _ _ (λ x h r. heard-more c.post.notes.session_limit xs ys (beside before cancel) (beside after cancel) (λ pid times. grow pid (times + waiting cancel pid)) x.offer h r) c.post.past c.post.notes.heard ok.past;
+    unreleased = unreleased_both _ _ _ c.phase (λ o a b. assigned-append xs ys o a b) ok.unreleased none;
     named = ok.named;
     keyed = ok.keyed;
     reaches = reaches-more xs ys latch c.post.notes.now.given c.phase silent ok.reaches;
     calls = ok.calls;
   }
+
+  -- so they do once the supervisor has made these steps, and once it has released the slot's child
+  pub latch_stepped : (xs ys : List RosterStep) (x : ℕ → ℕ → Type 0) (made : ℕ → ℕ) (latch cancel : ℕ) (ph : Phase D) (seat : ℕ) (w : PostView D) → OfUnreleased (λ o. NotReleased o.pid ys) ph → OfUnreleased (λ o. NotSent o.pid ys) ph
+      → LatchOk xs x made latch cancel record { phase = ph; seat = seat; post = w } → LatchOk (xs ++ ys) x made latch cancel record { phase = ph; seat = seat; post = w }
+  latch_stepped xs ys x made latch cancel ph seat w none silent ok = latch-more xs ys x x made latch cancel record { phase = ph; seat = seat; post = w } (λ _ _ z. z) none silent ok
+
+  pub latch_released : (xs ys : List RosterStep) (x : ℕ → ℕ → Type 0) (made : ℕ → ℕ) (latch cancel : ℕ) (o : Offer D) (st : Status) (a : Bool) (b : D) (seat : ℕ) (w : PostView D) → LatchOk xs x made latch cancel record { phase = ended o st a b; seat = seat; post = w }
+      → LatchOk (xs ++ ys) x made latch cancel record { phase = collected o st a; seat = seat; post = w }
+  latch_released xs ys x made latch cancel o st a b seat w ok = latch_stepped xs ys x made latch cancel (collected o st a) seat w tt tt
+      record { armed = ok.armed; fits = ok.fits; standing = ok.standing; cancel_is = ok.cancel_is; now = tt; past = ok.past; unreleased = tt; named = tt; keyed = ok.keyed; reaches = tt; calls = tt }
 
   -- no cancel more was made
   calls-fewer : (made made' : ℕ → ℕ) (cancel : ℕ) (h : Heard) (ph : Phase D) → ((pid : ℕ) → made' pid ≤ made pid) → CallsIn made cancel h ph → CallsIn made' cancel h ph
@@ -287,16 +311,16 @@ module _ {D : Type 0} where
   module _ (n k i word : ℕ) (words : List ℕ) (d d' : RosterView D) (cells : ℕ → Cell D) (c : Cell D) (le : (i ≤ n) × (k < n)) (still : CancelsSame (cells k) c) where
     -- a step on the word of a slot or of the gate, with these steps of the supervisor
     pub latches_pass : (zs : List RosterStep) → d'.notes.steps ≡ d.notes.steps ++ zs → ((pid : ℕ) → NotSent pid zs) → d.notes.last_pid ≤ d'.notes.last_pid
-        → ((j : ℕ) → j < n → j ≢ k → OfUnreleased (λ o. NotReleased o.pid zs) (cells j).phase) → OfUnreleased (λ o. NotReleased o.pid zs) c.phase
+        → ((j : ℕ) → j < n → j ≢ k → OfUnreleased (λ o. NotReleased o.pid zs) (cells j).phase)
         → ((why : Reason) → d'.noticed ≡ Some why → Contains d'.notes.steps (Quit why d'.generation)) → ((pid : ℕ) → d'.notes.last_pid < pid → NotReleased pid d'.notes.steps)
-        → LatchOk d.notes.steps (WereMade n cells) (made_on n cells k) (latch_at n words k) (cancel_at n words k) c
+        → LatchOk (d.notes.steps ++ zs) (WereMade n cells) (made_on n cells k) (latch_at n words k) (cancel_at n words k) c
         → Latches n words d cells → Latches n (set words i word) d' (put cells k c)
-    latches_pass zs more silent up others mine noticed fresh own ok =
+    latches_pass zs more silent up others noticed fresh own ok =
         recount (made_on n cells) (made_on n (put cells k c)) n (set words i word) d' (put cells k c) (count_same n k cells c le.1 still) (latches_move (made_on n cells) n k words (set words i word) d d' cells c le.1 zs more silent up (λ j _ _. far n j i word words le.0) (grows (cells k) c still) others noticed fresh (λ p _ was. subst (λ (z : ℕ). p ≤ z) (sym (far n k i word words le.0).1) was)
         (subst (λ (z : ℕ × ℕ × List RosterStep). LatchOk z.2 (WereMade n (put cells k c)) (made_on n cells k) z.0 z.1 c)
-        {x = (latch_at n words k, cancel_at n words k, d.notes.steps ++ zs)} {y = (latch_at n (set words i word) k, cancel_at n (set words i word) k, d'.notes.steps)}
-        (λ j. (sym (far n k i word words le.0).0 j, sym (far n k i word words le.0).1 j, sym more j))
-        (latch-more d.notes.steps zs (WereMade n cells) (WereMade n (put cells k c)) (made_on n cells k) (latch_at n words k) (cancel_at n words k) c (cancelled_more n k cells c le.1 (grows (cells k) c still)) mine (unreleased_all _ c.phase (λ o. silent o.pid)) own))
+        {x = (latch_at n words k, cancel_at n words k, (d.notes.steps ++ zs) ++ [])} {y = (latch_at n (set words i word) k, cancel_at n (set words i word) k, d'.notes.steps)}
+        (λ j. (sym (far n k i word words le.0).0 j, sym (far n k i word words le.0).1 j, (append-nil (d.notes.steps ++ zs) ∙ sym more) j))
+        (latch-more (d.notes.steps ++ zs) [] (WereMade n cells) (WereMade n (put cells k c)) (made_on n cells k) (latch_at n words k) (cancel_at n words k) c (cancelled_more n k cells c le.1 (grows (cells k) c still)) (unreleased_all _ c.phase (λ o. no_release o.pid)) (unreleased_all _ c.phase (λ o. sends_nothing o.pid)) own))
         ok)
 
   -- the slot k moves, by a step that is none of the supervisor's noted steps

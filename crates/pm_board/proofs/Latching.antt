@@ -13,7 +13,7 @@ use Rattle.pm_supervisor.specs.pm_exit.declared.child.Kind.{Kind}
 use Rattle.pm_keys.specs.CancelKey.{cancel_key}
 use Rattle.pm_supervisor.specs.declared.Reason.TheVariants as reason
 use Rattle.pm_child_life.specs.declared.life.Signals.{Signals}
-use Rattle.pm_board.{specs.{Slots.{child_slots, is_slot}, declared.views.{Cancel.Cancel, Heard.Heard, Offer.Offer, PastChild.PastChild, PostNotes.PostNotes, RosterStep.{RosterStep, TheVariants.Send}, RosterView.RosterView, Sight.TheVariants.{Unused, Opened, Assigned, Gathered}, Signal.Signal, SlotView.SlotView, Work.{Work, TheVariants.{Idle, Sees, Inactive, Active, Refused, Attached}}, PostView.PostView, View.{View, TheVariants.{Postmaster, Worker}}}, Words.{bit, flag}, Places.{slot_view, slot_at}, Gate.{GateOk, gate_of}, Latch.{latch_place, cancel_place, signal_number, latch_pid, armed_word, stands, quit_of, signals_at, is_crash, is_stop, is_given}, Latches.{times_made_on, made_on, CallsIn, LatchesOf, is_send, is_heard, times_sent, times_given, times_heard, Reaches, ReachesIn, OfUnreleased, HeardRightly, HearsRightly, ArmedFor, OfRunning, EachHeard, HeardBy, beside, waiting, times_told, times_made, WereMade, LatchOk, latch_at, cancel_at, Latches}, Rule.{Phase, unused, opened, offered, running, ended, collected, gathered, Seen, Does, unreleased, Cell, put, at_put, used_pid}, Seats.is_gathered, History.Kept, Told.{Seated, past_child, with_slot, with_sight, with_notes, child_in, after_step, answered, noted_take, noted_heed, noted_latch_look, noted_cancel, Arms, Sends, Takes, Heeds, LooksAtLatch, Cancels}}, proofs.{BoardLaws.sent-append, Bits.bit_small, Counts.count_moves, Moves.{rebased, word_step, word_turn, slot_turn, St}, Gates.{uncounted, uncounted_notes, gate_moves, once_still}, Latches.{no_release, not_released-append, send_is_no_release, sends_nothing, sent_to_other, unreleased_all, unreleased_both, latch_here, heard-more, hears-more, running_map, each-map, cancels_stay, cancelled_more, latches_moved, latches_word, recount, count_same}, Seats.{seats_step, seats_turn, seats_still}, Histories.{kept, same_history, quiet, send_history, others_unsent}, Keeps.{at_phase, owned, see_unused, pids_drop, does_run, does_act, does_back, does_stay}}}
+use Rattle.pm_board.{specs.{Slots.{child_slots, is_slot}, declared.views.{Cancel.Cancel, Heard.Heard, Offer.Offer, PastChild.PastChild, PostNotes.PostNotes, RosterStep.{RosterStep, TheVariants.Send}, RosterView.RosterView, Sight.TheVariants.{Unused, Opened, Assigned, Gathered}, Signal.Signal, SlotView.SlotView, Work.{Work, TheVariants.{Idle, Sees, Inactive, Active, Refused, Attached}}, PostView.PostView, View.{View, TheVariants.{Postmaster, Worker}}}, Words.{bit, flag}, Places.{slot_view, slot_at}, Gate.{GateOk, gate_of}, Latch.{latch_place, cancel_place, signal_number, latch_pid, armed_word, stands, quit_of, signals_at, is_crash, is_stop, is_given}, Latches.{times_made_on, made_on, CallsIn, LatchesOf, is_send, is_heard, times_sent, times_given, times_heard, Reaches, ReachesIn, OfUnreleased, doings, HeardRightly, HearsRightly, ArmedFor, OfRunning, EachHeard, HeardBy, beside, waiting, times_told, times_made, WereMade, LatchOk, latch_at, cancel_at, Latches}, Rule.{Phase, unused, opened, offered, running, ended, collected, gathered, Seen, Does, unreleased, Cell, put, at_put, used_pid}, Seats.is_gathered, History.Kept, Told.{Seated, past_child, with_slot, with_sight, with_notes, child_in, after_step, answered, noted_take, noted_heed, noted_latch_look, noted_cancel, Arms, Sends, Takes, Heeds, LooksAtLatch, Cancels}}, proofs.{BoardLaws.sent-append, Bits.bit_small, Counts.count_moves, Moves.{rebased, word_step, word_turn, slot_turn, St}, Gates.{uncounted, uncounted_notes, gate_moves, once_still}, Latches.{no_release, assigned-append, send_is_no_release, sends_nothing, sent_to_other, unreleased_all, unreleased_both, latch_here, heard-more, hears-more, running_map, each-map, cancels_stay, cancelled_more, latches_moved, latches_word, recount, count_same}, Seats.{seats_step, seats_turn, seats_still}, Histories.{kept, same_history, quiet, send_history, others_unsent}, Keeps.{at_phase, owned, see_unused, pids_drop, does_run, does_act, does_back, does_stay}}}
 use Rattle.pm_board.specs.declared.views.Letter as Letter
 use Rattle.pm_board.specs.declared.views.Signal.TheVariants as signal
 
@@ -222,27 +222,27 @@ told-append : (xs : List Signals) (s : Signals) → times_told (xs ++ s ∷ []) 
 told-append [] s = omega arith
 told-append (y ∷ xs) s = let h : times_told (xs ++ s ∷ []) ≡ times_told xs + bit s.cancel = told-append xs s in omega arith
 
-module _ (steps : List RosterStep) (x : ℕ → ℕ → Type 0) where
+module _ {D : Type 0} (limit : ℕ) (steps : List RosterStep) (x : ℕ → ℕ → Type 0) where
   -- a child has taken what stood
-  hears_taken : (latch pid g : ℕ) (h : Heard) → latch < 18446744073709551616 → HearsRightly steps x latch pid g h → HearsRightly steps x (bit_and latch 18446744073709551584) pid g (answered h (signals_at latch h.heeded))
-  hears_taken latch pid g h full r = let s : Signals = signals_at latch h.heeded in record {
+  hears_taken : (latch : ℕ) (o : Offer D) (h : Heard) → latch < 18446744073709551616 → HearsRightly (doings steps limit) x latch o h → HearsRightly (doings steps limit) x (bit_and latch 18446744073709551584) o (answered h (signals_at latch h.heeded))
+  hears_taken latch o h full r = let s : Signals = signals_at latch h.heeded in record {
     so_far = record {
       sent = λ number. let all : times_given number (h.given ++ s ∷ []) ≡ times_given number h.given + bit (is_given number s) = given-append number h.given s in dite (dec_le (number + 1) 5)
-          (λ small. let stood : bit (is_given number s) ≤ bit_at latch number = given_stands latch h.heeded number (omega arith) in let was : times_given number h.given + bit_at latch number ≤ times_sent number pid steps = r.still number (omega arith) in omega arith)
-          (λ big. let none_ : bit (is_given number s) ≡ 0 = none_given number s (omega arith) in let was : times_given number h.given ≤ times_sent number pid steps = r.so_far.sent number in omega arith);
-      cancels = subst (x pid) (let more : times_told (h.given ++ s ∷ []) ≡ times_told h.given + bit s.cancel = told-append h.given s in let all_ : times_told h.given + bit h.heeded ≡ times_told (h.given ++ s ∷ []) + bit false = omega arith in all_) r.so_far.cancels;
+          (λ small. let stood : bit (is_given number s) ≤ bit_at latch number = given_stands latch h.heeded number (omega arith) in let was : times_given number h.given + bit_at latch number ≤ times_sent number o.pid steps = r.still number (omega arith) in omega arith)
+          (λ big. let none_ : bit (is_given number s) ≡ 0 = none_given number s (omega arith) in let was : times_given number h.given ≤ times_sent number o.pid steps = r.so_far.sent number in omega arith);
+      cancels = subst (x o.pid) (let more : times_told (h.given ++ s ∷ []) ≡ times_told h.given + bit s.cancel = told-append h.given s in let all_ : times_told h.given + bit h.heeded ≡ times_told (h.given ++ s ∷ []) + bit false = omega arith in all_) r.so_far.cancels;
       met = r.so_far.met;
-      let_in = r.so_far.let_in;
+      shown = r.so_far.shown;
     };
     still = λ number small. let all : times_given number (h.given ++ s ∷ []) ≡ times_given number h.given + bit (is_given number s) = given-append number h.given s in
-        let stood : bit (is_given number s) ≤ bit_at latch number = given_stands latch h.heeded number small in let was : times_given number h.given + bit_at latch number ≤ times_sent number pid steps = r.still number small in
+        let stood : bit (is_given number s) ≤ bit_at latch number = given_stands latch h.heeded number small in let was : times_given number h.given + bit_at latch number ≤ times_sent number o.pid steps = r.still number small in
         let z : bit_at (bit_and latch 18446744073709551584) number ≡ 0 = cleared_bits latch full number small in omega arith;
   }
 
   -- a child has heeded a cancel, or met none
-  hears_heeded : ((p m m' : ℕ) → m' ≤ m → x p m → x p m') → (latch pid g cancel : ℕ) (h : Heard) → 0 < pid → HearsRightly steps (beside x cancel) latch pid g h → HearsRightly steps (beside x (either (eqb cancel pid) 0 cancel)) latch pid g record h { heeded = cancel == pid; found = h.found || (cancel == pid) }
-  hears_heeded less_ latch pid g cancel h pos r = record {
-    so_far = record { sent = r.so_far.sent; cancels = less_ pid (times_told h.given + bit h.heeded + waiting cancel pid) _ (moved cancel pid pos (times_told h.given) (bit h.heeded)) r.so_far.cancels; met = r.so_far.met; let_in = r.so_far.let_in };
+  hears_heeded : ((p m m' : ℕ) → m' ≤ m → x p m → x p m') → (latch : ℕ) (o : Offer D) (cancel : ℕ) (h : Heard) → 0 < o.pid → HearsRightly (doings steps limit) (beside x cancel) latch o h → HearsRightly (doings steps limit) (beside x (either (eqb cancel o.pid) 0 cancel)) latch o record h { heeded = cancel == o.pid; found = h.found || (cancel == o.pid) }
+  hears_heeded less_ latch o cancel h pos r = record {
+    so_far = record { sent = r.so_far.sent; cancels = less_ o.pid (times_told h.given + bit h.heeded + waiting cancel o.pid) _ (moved cancel o.pid pos (times_told h.given) (bit h.heeded)) r.so_far.cancels; met = r.so_far.met; shown = r.so_far.shown };
     still = r.still;
   }
     where
@@ -252,8 +252,8 @@ module _ (steps : List RosterStep) (x : ℕ → ℕ → Type 0) where
           (λ ne. let z : bit (suc c == p) ≡ 0 = ap bit (ne_eqb (suc c) p ne) in omega arith)
 
   -- what was heard before stays right where the cancel is heeded
-  heard_still : ((p m m' : ℕ) → m' ≤ m → x p m → x p m') → (own cancel pid g : ℕ) (h : Heard) → HeardRightly steps (beside x cancel) pid g h → HeardRightly steps (beside x (either (eqb cancel own) 0 cancel)) pid g h
-  heard_still less_ own cancel pid g h r = record { sent = r.sent; cancels = less_ pid (times_told h.given + bit h.heeded + waiting cancel pid) _ (exchanged cancel own 0 (λ w. times_told h.given + bit h.heeded + waiting w pid ≤ times_told h.given + bit h.heeded + waiting cancel pid) (λ _. omega arith) (λ _. omega arith)) r.cancels; met = r.met; let_in = r.let_in }
+  heard_still : ((p m m' : ℕ) → m' ≤ m → x p m → x p m') → (own cancel : ℕ) (o : Offer D) (h : Heard) → HeardRightly (doings steps limit) (beside x cancel) o h → HeardRightly (doings steps limit) (beside x (either (eqb cancel own) 0 cancel)) o h
+  heard_still less_ own cancel o h r = record { sent = r.sent; cancels = less_ o.pid (times_told h.given + bit h.heeded + waiting cancel o.pid) _ (exchanged cancel own 0 (λ w. times_told h.given + bit h.heeded + waiting w o.pid ≤ times_told h.given + bit h.heeded + waiting cancel o.pid) (λ _. omega arith) (λ _. omega arith)) r.cancels; met = r.met; shown = r.shown }
 
 -- a cancel that stood was found by the heed that took it
 calls_heeded : (c p : ℕ) (before : Bool) → (p ≤ c) ⊎ (before ≡ true) → (p ≤ either (eqb c p) 0 c) ⊎ ((before || (c == p)) ≡ true)
@@ -269,7 +269,7 @@ module _ (steps : List RosterStep) (x : ℕ → ℕ → Type 0) (made : ℕ → 
       fits = subst (λ (z : ℕ). z < 2147483648) (sym (cleared_pid latch full)) ok.fits;
       standing = λ number small. let z : bit_at (bit_and latch 18446744073709551584) number ≡ 0 = cleared_bits latch full number small in omega arith;
       cancel_is = ok.cancel_is;
-      now = hears_taken steps (beside x cancel) latch o.pid o.generation w.notes.now full ok.now;
+      now = hears_taken w.notes.session_limit steps (beside x cancel) latch o w.notes.now full ok.now;
       past = ok.past;
       unreleased = ok.unreleased;
       named = ok.named;
@@ -284,8 +284,8 @@ module _ (steps : List RosterStep) (x : ℕ → ℕ → Type 0) (made : ℕ → 
       fits = ok.fits;
       standing = ok.standing;
       cancel_is = exchanged cancel o.pid 0 (λ z. 0 < z → x z 1) (λ _ pos. absurd (omega arith)) (λ _. ok.cancel_is);
-      now = hears_heeded steps x less_ latch o.pid o.generation cancel w.notes.now ok.named ok.now;
-      past = each-map _ _ (λ y h r. heard_still steps x less_ o.pid cancel y.offer.pid y.offer.generation h r) w.past w.notes.heard ok.past;
+      now = hears_heeded w.notes.session_limit steps x less_ latch o cancel w.notes.now ok.named ok.now;
+      past = each-map _ _ (λ y h r. heard_still w.notes.session_limit steps x less_ o.pid cancel y.offer h r) w.past w.notes.heard ok.past;
       unreleased = ok.unreleased;
       named = ok.named;
       keyed = ok.keyed;
@@ -301,15 +301,15 @@ module _ (steps : List RosterStep) (x : ℕ → ℕ → Type 0) (made : ℕ → 
     abbrev latch' : ℕ
     latch' = bit_or latch (2 ^ signal_number s)
 
-    sent_now : {D : Type 0} (ph : Phase D) (h : Heard) → latch_pid latch ≡ pid → ArmedFor (latch_pid latch) ph → OfRunning (λ o. HearsRightly steps (beside x cancel) latch o.pid o.generation h) ph → OfRunning (λ o. HearsRightly after (beside x cancel) latch' o.pid o.generation h) ph
-    sent_now unused h is armed r = tt
-    sent_now (opened q) h is armed r = tt
-    sent_now (offered o) h is armed r = tt
-    sent_now (ended o st a b) h is armed r = tt
-    sent_now (collected o st a) h is armed r = tt
-    sent_now gathered h is armed r = tt
-    sent_now (running o a) h is armed r = record {
-      so_far = (hears-more steps (Send slot pid kind s g ∷ []) (beside x cancel) (beside x cancel) (λ _ _ z. z) latch o.pid o.generation h r).so_far;
+    sent_now : {D : Type 0} (limit : ℕ) (ph : Phase D) (h : Heard) → latch_pid latch ≡ pid → ArmedFor (latch_pid latch) ph → OfRunning (λ o. HearsRightly (doings steps limit) (beside x cancel) latch o h) ph → OfRunning (λ o. HearsRightly (doings after limit) (beside x cancel) latch' o h) ph
+    sent_now limit unused h is armed r = tt
+    sent_now limit (opened q) h is armed r = tt
+    sent_now limit (offered o) h is armed r = tt
+    sent_now limit (ended o st a b) h is armed r = tt
+    sent_now limit (collected o st a) h is armed r = tt
+    sent_now limit gathered h is armed r = tt
+    sent_now limit (running o a) h is armed r = record {
+      so_far = (hears-more limit steps (Send slot pid kind s g ∷ []) (beside x cancel) (beside x cancel) (λ _ _ z. z) latch o h r).so_far;
       still = λ number small. let was : times_given number h.given + bit_at latch number ≤ times_sent number o.pid steps = r.still number small in
           let bits : bit_at latch' number ≤ bit_at latch number + bit (signal_number s == number) = bits_after latch (signal_number s) number in
           let mine : pid ≡ o.pid = sym is ∙ armed in
@@ -339,9 +339,9 @@ module _ (steps : List RosterStep) (x : ℕ → ℕ → Type 0) (made : ℕ → 
           let bits : bit_at latch' number ≤ bit_at latch number + bit (signal_number s == number) = bits_after latch (signal_number s) number in
           let all : times_sent number pid after ≡ times_sent number pid steps + bit (signal_number s == number) = sent_more number slot pid g kind s steps in omega arith);
       cancel_is = ok.cancel_is;
-      now = sent_now c.phase c.post.notes.now is ok.armed ok.now;
-      past = each-map _ _ (λ y h r. heard-more steps (Send slot pid kind s g ∷ []) (beside x cancel) (beside x cancel) (λ _ _ z. z) y.offer.pid y.offer.generation h r) c.post.past c.post.notes.heard ok.past;
-      unreleased = unreleased_both _ _ _ c.phase (λ o a b. not_released-append o.pid steps (Send slot pid kind s g ∷ []) a b) ok.unreleased (unreleased_all _ c.phase (λ o. send_is_no_release slot o.pid pid g kind s));
+      now = sent_now c.post.notes.session_limit c.phase c.post.notes.now is ok.armed ok.now;
+      past = each-map _ _ (λ y h r. heard-more c.post.notes.session_limit steps (Send slot pid kind s g ∷ []) (beside x cancel) (beside x cancel) (λ _ _ z. z) y.offer h r) c.post.past c.post.notes.heard ok.past;
+      unreleased = unreleased_both _ _ _ c.phase (λ o a b. assigned-append steps (Send slot pid kind s g ∷ []) o a b) ok.unreleased (unreleased_all _ c.phase (λ o. send_is_no_release slot o.pid pid g kind s));
       named = ok.named;
       keyed = ok.keyed;
       reaches = reaches_sent c.phase c.post.notes.now.given is ok.armed ok.reaches;
@@ -364,8 +364,8 @@ module _ (steps : List RosterStep) (x y : ℕ → ℕ → Type 0) (pid : ℕ) (g
           (λ le. let e : max c pid ≡ pid = omega arith in let z : waiting (max c pid) p ≡ 0 = ap (λ (q : ℕ). waiting q p) e ∙ other pid p ne in omega arith)
           (λ gt. let e : max c pid ≡ c = omega arith in let z : waiting (max c pid) p ≡ waiting c p = ap (λ (q : ℕ). waiting q p) e in omega arith)
 
-  heard_raised : (c p g : ℕ) (h : Heard) → HeardRightly steps (beside x c) p g h → HeardRightly steps (beside y (max c pid)) p g h
-  heard_raised c p g h r = record { sent = r.sent; cancels = raised c p (times_told h.given + bit h.heeded) r.cancels; met = r.met; let_in = r.let_in }
+  heard_raised : {D : Type 0} (limit c : ℕ) (o : Offer D) (h : Heard) → HeardRightly (doings steps limit) (beside x c) o h → HeardRightly (doings steps limit) (beside y (max c pid)) o h
+  heard_raised limit c o h r = record { sent = r.sent; cancels = raised c o.pid (times_told h.given + bit h.heeded) r.cancels; met = r.met; shown = r.shown }
 
   -- the cancel for this pid stands, and what stood for others stays
   call_raised : (c p : ℕ) → (0 < made p → p ≤ c) → 0 < made' p → p ≤ max c pid
@@ -389,8 +389,8 @@ module _ (steps : List RosterStep) (x y : ℕ → ℕ → Type 0) (pid : ℕ) (g
     cancel_is = λ pos. dite (dec_le c pid)
         (λ le. let e : pid ≡ max c pid = omega arith in subst (λ (q : ℕ). y q 1) e (one 0 (none_ pid)))
         (λ gt. let e : c ≡ max c pid = omega arith in subst (λ (q : ℕ). y q 1) e (grow c 1 (ok.cancel_is (omega arith))));
-    now = running_map _ _ b.phase (λ o r. record { so_far = heard_raised c o.pid o.generation b.post.notes.now r.so_far; still = r.still }) ok.now;
-    past = each-map _ _ (λ z h r. heard_raised c z.offer.pid z.offer.generation h r) b.post.past b.post.notes.heard ok.past;
+    now = running_map _ _ b.phase (λ o r. record { so_far = heard_raised b.post.notes.session_limit c o b.post.notes.now r.so_far; still = r.still }) ok.now;
+    past = each-map _ _ (λ z h r. heard_raised b.post.notes.session_limit c z.offer h r) b.post.past b.post.notes.heard ok.past;
     unreleased = ok.unreleased;
     named = ok.named;
     keyed = ok.keyed;
@@ -559,9 +559,9 @@ module _ {J D : Type 0} (letter : Letter.Ghosts J D) (limit : ℕ) where
   own_keys s r id k w at = let mine = owned letter limit s r.0 r.1 r.2 r.3 id k w at in (latch_here r.1.notes.steps (WereMade (child_slots (length s.homes)) r.2) (made_on (child_slots (length s.homes)) r.2 k) (latch_at (child_slots (length s.homes)) s.words k) (cancel_at (child_slots (length s.homes)) s.words k) (r.2 k) (r.2 k).phase w refl mine.2 (r.6.each k mine.0)).keyed
 
   -- a worker's notes grow, and with them the cancels that it has made
-  noted_more : (s : St letter) (r : Kept letter limit s) (id k : ℕ) (w : PostView D) (notes : PostNotes) → get_elem? s.views id ≡ some (Worker k w) → notes.heard ≡ w.notes.heard → notes.now ≡ w.notes.now → ((pid : ℕ) → times_made pid w.notes.cancels ≤ times_made pid notes.cancels) → AllByRecursion (λ x. x.key ≡ cancel_key x.seed x.pid) notes.cancels
+  noted_more : (s : St letter) (r : Kept letter limit s) (id k : ℕ) (w : PostView D) (notes : PostNotes) → get_elem? s.views id ≡ some (Worker k w) → notes.session_limit ≡ w.notes.session_limit → notes.heard ≡ w.notes.heard → notes.now ≡ w.notes.now → ((pid : ℕ) → times_made pid w.notes.cancels ≤ times_made pid notes.cancels) → AllByRecursion (λ x. x.key ≡ cancel_key x.seed x.pid) notes.cancels
       → LatchesOf (made_on (child_slots (length s.homes)) r.2) (child_slots (length s.homes)) s.words r.1 (put r.2 k record { phase = (r.2 k).phase; seat = id; post = with_notes w notes })
-  noted_more s r id k w notes at heard now grow keys = let n : ℕ = child_slots (length s.homes) in let mine = owned letter limit s r.0 r.1 r.2 r.3 id k w at in let near : k < n = mine.0 in
+  noted_more s r id k w notes at lim heard now grow keys = let n : ℕ = child_slots (length s.homes) in let mine = owned letter limit s r.0 r.1 r.2 r.3 id k w at in let near : k < n = mine.0 in
       let l = latch_here r.1.notes.steps (WereMade n r.2) (made_on n r.2 k) (latch_at n s.words k) (cancel_at n s.words k) (r.2 k) (r.2 k).phase w refl mine.2 (r.6.each k near) in
       latches_moved (made_on n r.2) n k s.words s.words r.1 r.1 r.2 record { phase = (r.2 k).phase; seat = id; post = with_notes w notes } near (λ j l' ne. (refl, refl)) (λ p. let a : times_made p (r.2 k).post.notes.cancels ≤ times_made p w.notes.cancels = cancels_stay p (r.2 k).post w mine.2 in let b : times_made p w.notes.cancels ≤ times_made p notes.cancels = grow p in omega arith) refl refl refl refl (λ p _ was. was)
       record {
@@ -569,8 +569,8 @@ module _ {J D : Type 0} (letter : Letter.Ghosts J D) (limit : ℕ) where
         fits = l.fits;
         standing = l.standing;
         cancel_is = l.cancel_is;
-        now = subst (λ (z : Heard). OfRunning (λ o. HearsRightly r.1.notes.steps (beside (WereMade n r.2) (cancel_at n s.words k)) (latch_at n s.words k) o.pid o.generation z) (r.2 k).phase) (sym now) l.now;
-        past = subst (λ (z : List Heard). EachHeard (HeardBy r.1.notes.steps (beside (WereMade n r.2) (cancel_at n s.words k))) w.past z) (sym heard) l.past;
+        now = subst (λ (z : ℕ × Heard). OfRunning (λ o. HearsRightly (doings r.1.notes.steps z.0) (beside (WereMade n r.2) (cancel_at n s.words k)) (latch_at n s.words k) o z.1) (r.2 k).phase) {x = (w.notes.session_limit, w.notes.now)} {y = (notes.session_limit, notes.now)} (λ u. (sym lim u, sym now u)) l.now;
+        past = subst (λ (z : ℕ × List Heard). EachHeard (HeardBy (doings r.1.notes.steps z.0) (beside (WereMade n r.2) (cancel_at n s.words k))) w.past z.1) {x = (w.notes.session_limit, w.notes.heard)} {y = (notes.session_limit, notes.heard)} (λ u. (sym lim u, sym heard u)) l.past;
         unreleased = l.unreleased;
         named = l.named;
         keyed = keys;
@@ -588,7 +588,7 @@ module _ {J D : Type 0} (letter : Letter.Ghosts J D) (limit : ℕ) where
         keeps,
         tt,
         notes_step s r id k i found w notes at (omega arith) refl refl
-            (subst (λ (z : List ℕ). Latches n z r.1 (put r.2 k record { phase = (r.2 k).phase; seat = id; post = with_notes w notes })) (sym (set-get_or s.words i 0)) (recount (made_on n r.2) (made_on n (put r.2 k cell)) n s.words r.1 (put r.2 k cell) (count_same n k r.2 cell mine.0 (ap (λ (z : PostView D). z.notes.cancels) (sym mine.2))) (noted_more s r id k w notes at refl refl (λ _. omega arith) (own_keys s r id k w at)))),
+            (subst (λ (z : List ℕ). Latches n z r.1 (put r.2 k record { phase = (r.2 k).phase; seat = id; post = with_notes w notes })) (sym (set-get_or s.words i 0)) (recount (made_on n r.2) (made_on n (put r.2 k cell)) n s.words r.1 (put r.2 k cell) (count_same n k r.2 cell mine.0 (ap (λ (z : PostView D). z.notes.cancels) (sym mine.2))) (noted_more s r id k w notes at refl refl refl (λ _. omega arith) (own_keys s r id k w at)))),
         λ j' there. let same : j ≡ j' = omega arith in ((λ u. (Worker k (with_notes w (noted_latch_look w.notes (same u) found)), c)), (r.6.each j near).fits),
       )
 
@@ -603,7 +603,7 @@ module _ {J D : Type 0} (letter : Letter.Ghosts J D) (limit : ℕ) where
       let found : ℕ = get_or s.words i 0 in let word : ℕ = max found x.pid in let words : List ℕ = set s.words i word in let notes : PostNotes = noted_cancel w.notes x in
       let cell : Cell D = record { phase = (r.2 k).phase; seat = id; post = with_notes w notes } in let cells : ℕ → Cell D = put r.2 k cell in
       let keys = each_more (λ (y : Cancel). y.key ≡ cancel_key y.seed y.pid) w.notes.cancels x (own_keys s r id k w at) key in
-      let la = noted_more s r id k w notes at refl refl (λ p. let e : times_made p (w.notes.cancels ++ x ∷ []) ≡ times_made p w.notes.cancels + bit (x.pid == p) = made-append p w.notes.cancels x in omega arith) keys in
+      let la = noted_more s r id k w notes at refl refl refl (λ p. let e : times_made p (w.notes.cancels ++ x ∷ []) ≡ times_made p w.notes.cancels + bit (x.pid == p) = made-append p w.notes.cancels x in omega arith) keys in
       let l = latch_raised r.1.notes.steps (WereMade n r.2) (WereMade n cells) x.pid (cancelled_more n k r.2 cell mine.0 (λ p. let a : times_made p (r.2 k).post.notes.cancels ≤ times_made p w.notes.cancels = cancels_stay p (r.2 k).post w mine.2 in let e : times_made p (w.notes.cancels ++ x ∷ []) ≡ times_made p w.notes.cancels + bit (x.pid == p) = made-append p w.notes.cancels x in omega arith))
       (λ m made. one_more n k m x r.2 cell w mine.0 mine.2 refl made) (λ p m m' le made. omega arith) (λ p. omega arith) (made_on n r.2 j) (made_on n cells j) (λ p ne. no_more n k j p x r.2 cell w mine.0 mine.2 refl (λ both_. ne (sym both_.1))) (latch_at n s.words j) found (r.2 j) (r.6.each j near) in
       let waits : (p : ℕ) → (0 < made_on n r.2 j p → p ≤ found) → 0 < made_on n cells j p → p ≤ word = (λ p was pos. dite (ℕ_discrete p x.pid) (λ is. omega arith) (λ ne. let f : made_on n cells j p ≤ made_on n r.2 j p = no_more n k j p x r.2 cell w mine.0 mine.2 refl (λ both_. ne (sym both_.1)) in let le : p ≤ found = was (omega arith) in omega arith)) in (

@@ -93,6 +93,16 @@ answer_to true limit None word =
 abbrev pub gate_answer : Kind → ℕ → ℕ → Result ℕ GateNo
 gate_answer kind limit word = answer_to (is_session kind) limit (notice_in word) word
 
+-- What a gate answers a child of such a kind: a notice that stands, to a session that it isn't open yet, or that no fewer have a place
+-- than may be attached; and else it lets the child in
+abbrev pub GateAnswers : ℕ → Kind → Gate → Result ℕ GateNo → Type 0
+GateAnswers limit kind gate (Ok g) = (g ≡ gate.generation) × (gate.noticed ≡ None) × (is_session kind ≡ true → gate.is_open ≡ true)
+GateAnswers limit kind gate (Err (gate_no.Quit g why)) = (g ≡ gate.generation) × (gate.noticed ≡ Some why)
+GateAnswers limit kind gate (Err (gate_no.NotReady g)) =
+    (g ≡ gate.generation) × (gate.noticed ≡ None) × (is_session kind ≡ true) × (gate.is_open ≡ false)
+GateAnswers limit kind gate (Err (gate_no.TooMany count)) =
+    (limit ≤ count) × (gate.noticed ≡ None) × (is_session kind ≡ true) × (gate.is_open ≡ true)
+
 module _ {D : Type 0} where
   -- a child of such a kind stands at the gate: it was refused and hasn't backed out yet, or is attached
   abbrev pub at_gate : (Kind → Bool) → Work D → ℕ

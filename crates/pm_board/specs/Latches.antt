@@ -1,11 +1,11 @@
 -- The rule of the latches: what stands for a child, and what it was given, was sent to it.
-use Rattle.std.specs.{Prelude.{◌≡◌, ℕ, zero, suc, ◌+◌, ◌<◌, ◌≤◌, ◌⊎◌, Bool, true, ◌==◌, ◌&&◌, is_some, List, [], ◌∷◌, ◌++◌, Some, Ok, Err, slice_index_or}, Int.bit_at, List.{Contains, AllByRecursion}}
+use Rattle.std.specs.{Prelude.{◌≡◌, ℕ, zero, suc, ◌+◌, ◌<◌, ◌≤◌, ◌⊎◌, Bool, true, ◌==◌, ◌&&◌, is_some, List, [], ◌∷◌, ◌++◌, Some, Result, Err, slice_index_or}, Int.bit_at, List.{Contains, AllByRecursion}}
 use Rattle.pm_facts.specs.Numbers.{sum_below}
 use Rattle.pm_supervisor.specs.{pm_exit.declared.child.Kind.Kind, declared.Reason.Reason}
 use Rattle.pm_keys.specs.CancelKey.{cancel_key}
 use Rattle.pm_child_life.specs.declared.life.GateNo.TheVariants as gate_no
-use Rattle.pm_child_life.specs.declared.life.Signals.{Signals}
-use Rattle.pm_board.specs.{declared.views.{Cancel.Cancel, Heard.Heard, Offer.Offer, PastChild.PastChild, RosterStep.{RosterStep, TheVariants.{Assign, Release, Quit, Ready, Reset, Send}}, RosterView.RosterView}, Words.bit, Latch.{latch_place, cancel_place, signal_number, latch_pid, is_given}, Rule.{Phase, unused, opened, offered, running, ended, collected, gathered, Cell}}
+use Rattle.pm_child_life.specs.declared.life.{GateNo.GateNo, Signals.Signals}
+use Rattle.pm_board.specs.{declared.views.{Cancel.Cancel, Heard.Heard, Offer.Offer, PastChild.PastChild, RosterStep.{RosterStep, TheVariants.{Assign, Release, Quit, Ready, Reset, Send}}, RosterView.RosterView}, Words.bit, Gate.{GateAnswers, first_gate, gate_of_steps}, Latch.{latch_place, cancel_place, signal_number, latch_pid, is_given}, Rule.{Phase, unused, opened, offered, running, ended, collected, gathered, Cell}}
 
 -- a step is a send of the signal of this number to this pid
 abbrev pub is_send : ℕ → ℕ → RosterStep → Bool
@@ -54,6 +54,14 @@ abbrev pub NoticedBefore : List RosterStep → ℕ → Reason → ℕ → Type 0
 NoticedBefore steps pid why generation =
     (before after : List RosterStep) × (steps ≡ before ++ Quit why generation ∷ after) × NotReleased pid before
 
+-- what the supervisor did: its own steps, and how many sessions it lets be attached
+pub record Doings : Type 0 where
+  pub steps : List RosterStep
+  pub session_limit : ℕ
+
+abbrev pub doings : List RosterStep → ℕ → Doings
+doings steps limit = record { steps = steps; session_limit = limit }
+
 -- how many of these answers told of a cancel
 abbrev pub times_told : List Signals → ℕ
 times_told [] = 0
@@ -74,20 +82,6 @@ abbrev pub waiting : ℕ → ℕ → ℕ
 waiting zero pid = 0
 waiting (suc n) pid = bit (suc n == pid)
 
--- What a child of this pid and generation heard was meant for it. It was given no signal more often than it was sent to it,
--- and heeded no more cancels than there are for its pid. Where the gate told it of a notice, the supervisor had given that
-pub record HeardRightly (steps : List RosterStep) (cancelled : ℕ → ℕ → Type 0) (pid generation : ℕ) (h : Heard) : Type 0 where
-  pub sent : (number : ℕ) → times_given number h.given ≤ times_sent number pid steps
-  pub cancels : cancelled pid (times_told h.given + bit h.heeded)
-  pub met : (g : ℕ) (why : Reason) → h.met ≡ Some (Err (gate_no.Quit g why)) → (g ≡ generation) × NoticedBefore steps pid why generation
-  -- and the generation that it let it into is its own
-  pub let_in : (g : ℕ) → h.met ≡ Some (Ok g) → g ≡ generation
-
--- Of the child that runs: a signal that stands hasn't been given yet for one of the sends
-pub record HearsRightly (steps : List RosterStep) (cancelled : ℕ → ℕ → Type 0) (latch pid generation : ℕ) (h : Heard) : Type 0 where
-  pub so_far : HeardRightly steps cancelled pid generation h
-  pub still : (number : ℕ) → number < 5 → times_given number h.given + bit_at latch number ≤ times_sent number pid steps
-
 -- the words of the latch and of the cancels of the slot k, of n
 abbrev pub latch_at : ℕ → List ℕ → ℕ → ℕ
 latch_at n words k = slice_index_or words (latch_place n k) 0
@@ -100,6 +94,35 @@ abbrev pub beside : (ℕ → ℕ → Type 0) → ℕ → ℕ → ℕ → Type 0
 beside cancelled cancel pid times = cancelled pid (times + waiting cancel pid)
 
 module _ {D : Type 0} where
+  abbrev pub doings_of : RosterView D → Doings
+  doings_of d = doings d.notes.steps d.session_limit
+
+  -- this child was assigned, and none of its pid released
+  abbrev pub IsAssignedBy : List RosterStep → Offer D → Type 0
+  IsAssignedBy steps o = ((slot : ℕ) × Contains steps (Assign slot o.pid o.kind o.generation)) × NotReleased o.pid steps
+
+  -- The gate answered this in the child's own generation, at a moment of the supervisor's own steps, after it assigned the child and
+  -- before it released one of that pid, if it did
+  abbrev pub AnsweredBefore : Doings → Offer D → Result ℕ GateNo → Type 0
+  AnsweredBefore done o answer =
+      (before after : List RosterStep) × (done.steps ≡ before ++ after) × IsAssignedBy before o
+      × ((gate_of_steps first_gate before).generation ≡ o.generation)
+      × GateAnswers done.session_limit o.kind (gate_of_steps first_gate before) answer
+
+  -- What a child heard was meant for it. It was given no signal more often than it was sent to it, and heeded no more cancels than
+  -- there are for its pid. Where the gate told it of a notice, the supervisor had given that
+  pub record HeardRightly (done : Doings) (cancelled : ℕ → ℕ → Type 0) (o : Offer D) (h : Heard) : Type 0 where
+    pub sent : (number : ℕ) → times_given number h.given ≤ times_sent number o.pid done.steps
+    pub cancels : cancelled o.pid (times_told h.given + bit h.heeded)
+    pub met : (g : ℕ) (why : Reason) → h.met ≡ Some (Err (gate_no.Quit g why)) → (g ≡ o.generation) × NoticedBefore done.steps o.pid why o.generation
+    -- and what it met at the gate, if it went there, the gate answered, as it was while the child was there
+    pub shown : (answer : Result ℕ GateNo) → h.met ≡ Some answer → AnsweredBefore done o answer
+
+  -- Of the child that runs: a signal that stands hasn't been given yet for one of the sends
+  pub record HearsRightly (done : Doings) (cancelled : ℕ → ℕ → Type 0) (latch : ℕ) (o : Offer D) (h : Heard) : Type 0 where
+    pub so_far : HeardRightly done cancelled o h
+    pub still : (number : ℕ) → number < 5 → times_given number h.given + bit_at latch number ≤ times_sent number o.pid done.steps
+
   -- the latch of a slot that has a child, or is about to have one, is armed for its pid
   abbrev pub ArmedFor : ℕ → Phase D → Type 0
   ArmedFor pid unused = Unit {0}
@@ -159,8 +182,8 @@ module _ {D : Type 0} where
   EachHeard P [] (h ∷ hs) = ⊥
   EachHeard P (x ∷ xs) [] = ⊥
 
-  abbrev pub HeardBy : List RosterStep → (ℕ → ℕ → Type 0) → PastChild D → Heard → Type 0
-  HeardBy steps cancelled x h = HeardRightly steps cancelled x.offer.pid x.offer.generation h
+  abbrev pub HeardBy : Doings → (ℕ → ℕ → Type 0) → PastChild D → Heard → Type 0
+  HeardBy done cancelled x h = HeardRightly done cancelled x.offer h
 
   -- the workers have made so many cancels for this pid, or more
   abbrev pub WereMade : ℕ → (ℕ → Cell D) → ℕ → ℕ → Type 0
@@ -177,9 +200,9 @@ module _ {D : Type 0} where
     -- a signal stands only where it was sent to that pid
     pub standing : (number : ℕ) → number < 5 → bit_at latch number ≤ times_sent number (latch_pid latch) steps
     pub cancel_is : 0 < cancel → cancelled cancel 1
-    pub now : OfRunning (λ o. HearsRightly steps (beside cancelled cancel) latch o.pid o.generation c.post.notes.now) c.phase
-    pub past : EachHeard (HeardBy steps (beside cancelled cancel)) c.post.past c.post.notes.heard
-    pub unreleased : OfUnreleased (λ o. NotReleased o.pid steps) c.phase
+    pub now : OfRunning (λ o. HearsRightly (doings steps c.post.notes.session_limit) (beside cancelled cancel) latch o c.post.notes.now) c.phase
+    pub past : EachHeard (HeardBy (doings steps c.post.notes.session_limit) (beside cancelled cancel)) c.post.past c.post.notes.heard
+    pub unreleased : OfUnreleased (λ o. IsAssignedBy steps o) c.phase
     pub named : OfUnreleased (λ o. 0 < o.pid) c.phase
     -- a cancel is made with the key of its pid, under the seed that its call was given
     pub keyed : AllByRecursion (λ x. x.key ≡ cancel_key x.seed x.pid) c.post.notes.cancels

@@ -4,7 +4,7 @@ use mathlib.Core.Option.{some}
 use lib.ListN.{get_elem?}
 use Rattle.atomic_table.specs.Table.{State}
 use Rattle.pm_supervisor.specs.{Supervisor.Shared, Shared.{IsKept, Attach, Allows}, Children.{is_dead_end, is_session}}
-use Rattle.pm_board.specs.{Slots.child_slots, Gate.gate_answer, declared.views.{Offer.Offer, PastChild.PastChild, RosterView.RosterView, Work.TheVariants.{Idle, Active}, PostView.PostView, View.{View, TheVariants.{Postmaster, Worker}}}, Places.{slot_at, used_in}, Heard.{WasMade, HeardAsSent}, Latches.{HeardRightly, EachHeard, HeardBy, Reaches, latch_at, cancel_at, times_made_on}, Told.child_in, History.{Entry, Kept, of_supervisor, events_of, of_worker, worker_step}}
+use Rattle.pm_board.specs.{Slots.child_slots, Gate.gate_answer, declared.views.{Offer.Offer, PastChild.PastChild, RosterView.RosterView, Work.TheVariants.{Idle, Active}, PostView.PostView, View.{View, TheVariants.{Postmaster, Worker}}}, Places.{slot_at, used_in}, Heard.{WasMade, HeardAsSent}, Latches.{HeardRightly, EachHeard, HeardBy, doings_of, Reaches, latch_at, cancel_at, times_made_on}, Told.child_in, History.{Entry, Kept, of_supervisor, events_of, of_worker, worker_step}}
 use Rattle.pm_board.specs.declared.views.Letter as Letter
 
 module _ {J D : Type 0} (letter : Letter.Ghosts J D) where
@@ -48,12 +48,12 @@ module _ {J D : Type 0} (letter : Letter.Ghosts J D) where
     pub before :
         (limit : ℕ) (s : State (Option J) (View D)) → Kept letter limit s → (master id k : ℕ) (d : RosterView D) (w : PostView D)
         → get_elem? s.views master ≡ some (Postmaster d) → get_elem? s.views id ≡ some (Worker k w)
-        → EachHeard (HeardBy d.notes.steps (WasMade s.views d)) w.past w.notes.heard
+        → EachHeard (HeardBy (doings_of d) (WasMade s.views d)) w.past w.notes.heard
     -- of the one that it runs
     pub now :
         (limit : ℕ) (s : State (Option J) (View D)) → Kept letter limit s → (master id k : ℕ) (d : RosterView D) (w : PostView D)
         → get_elem? s.views master ≡ some (Postmaster d) → get_elem? s.views id ≡ some (Worker k w)
-        → (o : Offer D) → child_in w.work ≡ Some o → HeardRightly d.notes.steps (WasMade s.views d) o.pid o.generation w.notes.now
+        → (o : Offer D) → child_in w.work ≡ Some o → HeardRightly (doings_of d) (WasMade s.views d) o w.notes.now
     -- what was sent to that one stands in its latch, until an answer told it
     pub reached :
         (limit : ℕ) (s : State (Option J) (View D)) → Kept letter limit s → (master id k : ℕ) (d : RosterView D) (w : PostView D)

@@ -26,8 +26,10 @@ pub fn history_is_of_the_seats<J: Letter>()
 {}
 
 /// What a child heard was meant for it: each signal that it was given was sent to its pid, once for each time that it was given;
-/// a cancel that it heeded was made for its pid, with the key of that pid; and where the gate told it of a notice, the
-/// supervisor had given that notice in the child's generation, before the child's release.
+/// a cancel that it heeded was made for its pid, with the key of that pid; where the gate told it of a notice, the supervisor had
+/// given that notice in the child's generation, before the child's release; and whatever it met at the gate was the gate's answer
+/// by what the supervisor had made of it at a moment before that release: it was let in where no notice stood, as a session where
+/// the gate was open.
 /// And what was meant for the child that runs is not lost: a signal that was sent to it stands in its latch until an answer told it,
 /// and a cancel made for it on its slot, or one for a later pid, stands in the word of the cancels until a heed found it.
 pub fn hears_what_was_sent<J: Letter>()

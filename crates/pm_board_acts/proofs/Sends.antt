@@ -14,6 +14,11 @@ module _ {D : Type 0} where
   same-slots d [] = refl
   same-slots d (s ∷ ss) = same-slots (after_step d s) ss
 
+  -- and so does the limit of sessions
+  pub same-limit : (d : RosterView D) (ss : List RosterStep) → (after_steps d ss).session_limit ≡ d.session_limit
+  same-limit d [] = refl
+  same-limit d (s ∷ ss) = same-limit (after_step d s) ss
+
   pub noted-steps : (d : RosterView D) (ss : List RosterStep) → (after_steps d ss).notes.steps ≡ d.notes.steps ++ ss
   noted-steps d [] = sym (append-none d.notes.steps)
     where

@@ -71,6 +71,7 @@ impl<J: Chronicle<PmEvent>, M: Report + Drop> Desk<J, M> {
         ensures tells { is_some (told self.new.supervision) ≡ is_some (told self.old.supervision) }
         ensures standing { standing self.new.supervision ≡ standing self.old.supervision }
         ensures slots { self.new.roster.knows.slots ≡ self.old.roster.knows.slots }
+        ensures limit { self.new.roster.knows.session_limit ≡ self.old.roster.knows.session_limit }
         ensures past { KeepsPast self.old.roster.knows self.new.roster.knows }
         ensures kills { OnOk result ((line : List ℕ) (at : ℕ) → Goes (Reads line (Kill pid) at ∷ [])
             (view (at_work self.old.supervision) self.old.roster.knows)

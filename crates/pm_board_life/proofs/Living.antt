@@ -1,9 +1,9 @@
 -- A child that runs on a post, as its life knows it.
 use Rattle.std.{proofs.{Common.{ℕ, ◌≡◌, inl, inr, ◌∙◌, ◌++◌, Bool, true, false, List, [], ◌∷◌, Option, Some, None, length, ap, sym, refl, subst}, lemmas.{List.{append-nil, append_assoc}, Grind.fold-append}}, specs.{Prelude.{IsTrue, Result, Ok, Err, not, nat_lt, if◌then◌else◌}, Option.option_to_list}}
 use Rattle.pm_gate.specs.{pm_supervisor.{Children.{is_dead_end, is_session}, declared.Reason.Reason}, declared.tokens.Attached.Attached as Token, Attaching.{IsAttachedIn, HasAttached, HasLeft, answer_of, after_attach}}
-use Rattle.pm_board.specs.{pm_child_life.{declared.life.{Cancelled.{Cancelled, TheVariants.{Sent, NoSuchPid, WrongKey}}, GateNo.{GateNo, TheVariants.{NotReady, TooMany}}, Signals.Signals}, Life.{Told, nothing_told, asked_again, let_go}}, declared.views.{Cancel.Cancel, Heard.Heard, Offer.Offer, PostView.PostView, Work.{Work, TheVariants.{Idle, Sees, Inactive, Active, Refused, Attached}}}, Gate.{answer_to, gate_answer, generation_in, notice_in, open_in, sessions_in}, Told.{child_in, answered}, Models.{PostModel, MayAttach, RunsChild, cancel_of}, Rule.no_signals}
-use Rattle.pm_latch.specs.{Taking.HasTaken, Cancelling.{HasAsked, request}}
-use Rattle.pm_board_life.specs.Lives.{LifeModel, child_by, told_in_turn, told_by, IsAnswerTo, MetRightly, Makes, LivesAs, IsLiving, GoesOn, GoesOnFrom}
+use Rattle.pm_board.specs.{pm_child_life.{declared.life.{Cancelled.{Cancelled, TheVariants.{Sent, NoSuchPid, WrongKey}}, GateNo.{GateNo, TheVariants.{NotReady, TooMany}}, Signals.Signals}, Life.{Told, nothing_told, asked_again, let_go}}, Slots.child_slots, declared.views.{Cancel.Cancel, Heard.Heard, LatchLook.LatchLook, Offer.Offer, PostView.PostView, Work.{Work, TheVariants.{Idle, Sees, Inactive, Active, Refused, Attached}}}, Gate.{answer_to, gate_answer, generation_in, notice_in, open_in, sessions_in}, Told.{child_in, answered}, Models.{PostModel, MayAttach, RunsChild, cancel_of}, Rule.no_signals}
+use Rattle.pm_latch.specs.{Taking.HasTaken, Cancelling.{HasAsked, looks_from, request}}
+use Rattle.pm_board_life.specs.Lives.{Beginning, LifeModel, beginning, child_by, told_in_turn, told_by, IsAnswerTo, MetRightly, Makes, LivesAs, IsLiving, GoesOn, GoesOnFrom}
 
 -- ---- at the gate
 
@@ -99,39 +99,53 @@ module _ {D : Type 0} where
   pub record Follows (before now : LifeModel D) : Type 0 where
     pub table : now.post.table ≡ before.post.table
     pub slot : now.post.slot ≡ before.post.slot
+    pub seed : now.seed ≡ before.seed
     pub child : child_in now.post.knows.work ≡ child_in before.post.knows.work
     pub past : now.post.knows.past ≡ before.post.knows.past
     pub heard : now.post.knows.notes.heard ≡ before.post.knows.notes.heard
     pub met : (o : Offer D) → child_in before.post.knows.work ≡ Some o → MetRightly o before.post.knows.notes.now.met → MetRightly o now.post.knows.notes.now.met
+    pub looked : List LatchLook
     pub made : List Cancel
-    pub makes : (earlier : List Cancel) → Makes before.cancel earlier → Makes now.cancel (earlier ++ made)
+    pub makes :
+        (seed : List ℕ) (slots : ℕ) → before.seed ≡ seed → child_slots before.post.table.slots ≡ slots → (looks : List LatchLook) (earlier : List Cancel)
+        → Makes seed slots before.cancel looks earlier → Makes seed slots now.cancel (looks ++ looked) (earlier ++ made)
+    pub looks : now.post.knows.notes.looked ≡ before.post.knows.notes.looked ++ looked
     pub cancels : now.post.knows.notes.cancels ≡ before.post.knows.notes.cancels ++ made
 
-  pub goes : (before now : LifeModel D) → Follows before now → (begun : Option (PostModel D)) → GoesOnFrom begun before → GoesOnFrom begun now
+  pub goes : (before now : LifeModel D) → Follows before now → (begun : Option (Beginning D)) → GoesOnFrom begun before → GoesOnFrom begun now
   goes before now f None on = on
   goes before now f (Some first) on =
       record {
         table = f.table ∙ on.table;
         slot = f.slot ∙ on.slot;
+        seed = f.seed ∙ on.seed;
         child = f.child ∙ on.child;
         past = f.past ∙ on.past;
         heard = f.heard ∙ on.heard;
         met = λ o is. f.met o (on.child ∙ is) (on.met o is);
+        looked = on.looked ++ f.looked;
         made = on.made ++ f.made;
-        makes = f.makes on.made on.makes;
-        cancels = f.cancels ∙ (ap (λ xs. xs ++ f.made) on.cancels ∙ append_assoc first.knows.notes.cancels on.made f.made);
+        makes = f.makes first.seed (child_slots first.post.table.slots) on.seed (ap (λ t. child_slots t.slots) on.table) on.looked on.made on.makes;
+        looks = f.looks ∙ (ap (λ xs. xs ++ f.looked) on.looks ∙ append_assoc first.post.knows.notes.looked on.looked f.looked);
+        cancels = f.cancels ∙ (ap (λ xs. xs ++ f.made) on.cancels ∙ append_assoc first.post.knows.notes.cancels on.made f.made);
       }
 
--- where no cancel is made
-same_makes : (cancel : Option (ℕ × ℕ)) (earlier : List Cancel) → Makes cancel earlier → Makes cancel (earlier ++ [])
-same_makes cancel earlier h = subst (Makes cancel) (sym (append-nil earlier)) h
+-- where no latch is looked at and no cancel made
+same_makes : (cancel : Option (ℕ × ℕ)) (seed : List ℕ) (slots : ℕ) (looked : List LatchLook) (made : List Cancel) → Makes seed slots cancel looked made
+    → Makes seed slots cancel (looked ++ []) (made ++ [])
+same_makes cancel seed slots looked made h =
+    subst (λ (l : List LatchLook). Makes seed slots cancel l (made ++ [])) (sym (append-nil looked))
+    (subst (λ (m : List Cancel). Makes seed slots cancel looked m) (sym (append-nil made)) h)
 
 -- where a child asks for its first cancel
-first_makes : (asked : ℕ × ℕ) (x : Cancel) → x.pid ≡ asked.0 → x.key ≡ asked.1 → (earlier : List Cancel) → earlier ≡ [] → Makes (Some asked) (earlier ++ x ∷ [])
-first_makes asked x p k earlier none = inr (x, p, k, ap (λ xs. xs ++ x ∷ []) none)
-
-no_makes : (asked : ℕ × ℕ) (earlier : List Cancel) → earlier ≡ [] → Makes (Some asked) (earlier ++ [])
-no_makes asked earlier none = inl (ap (λ xs. xs ++ []) none)
+first_makes : (its : List ℕ) (many : ℕ) (asked : ℕ × ℕ) (looked : List LatchLook) (made : List Cancel) → Makes its many (Some asked) looked made
+    → (seed : List ℕ) (slots : ℕ) → its ≡ seed → many ≡ slots → (looks : List LatchLook) (earlier : List Cancel) → Makes seed slots None looks earlier
+    → Makes seed slots (Some asked) (looks ++ looked) (earlier ++ made)
+first_makes its many asked looked made is seed slots same as_many looks earlier none =
+    subst (λ (l : List LatchLook). Makes seed slots (Some asked) (l ++ looked) (earlier ++ made)) (sym none.0)
+    (subst (λ (m : List Cancel). Makes seed slots (Some asked) looked (m ++ made)) (sym none.1)
+    (subst (λ (n : ℕ). Makes seed n (Some asked) looked made) as_many
+    (subst (λ (s : List ℕ). Makes s many (Some asked) looked made) same is)))
 
 none_asked : (cancel : Option (ℕ × ℕ)) → option_to_list cancel ≡ [] → cancel ≡ None
 none_asked None e = refl
@@ -143,57 +157,66 @@ child_or o (Some p) = p
 
 module _ {D : Type 0} where
   -- it took its signals
-  pub takes : (s : Signals) (cancel : Option (ℕ × ℕ)) (before after : PostModel D) → RunsChild before.knows.work → after.table ≡ before.table → after.slot ≡ before.slot
-      → after.knows.work ≡ before.knows.work → HasTaken s before.knows after.knows → Follows (record { post = before; cancel = cancel }) (record { post = after; cancel = cancel })
-  takes s cancel before after runs t sl w taken =
+  pub takes : (s : Signals) (seed : List ℕ) (cancel : Option (ℕ × ℕ)) (before after : PostModel D) → RunsChild before.knows.work → after.table ≡ before.table → after.slot ≡ before.slot
+      → after.knows.work ≡ before.knows.work → HasTaken s before.knows after.knows → Follows (record { post = before; seed = seed; cancel = cancel }) (record { post = after; seed = seed; cancel = cancel })
+  takes s seed cancel before after runs t sl w taken =
       let is = (taken runs.0 runs.1).3 in
       record {
         table = t;
         slot = sl;
+        seed = refl;
         child = ap child_in w;
         past = ap (λ v. v.past) is;
         heard = ap (λ v. v.notes.heard) is;
         met = λ o e m. subst (MetRightly o) (sym (ap (λ v. v.notes.now.met) is)) m;
+        looked = [];
         made = [];
-        makes = same_makes cancel;
+        makes = λ its many _ _. same_makes cancel its many;
+        looks = ap (λ v. v.notes.looked) is ∙ sym (append-nil before.knows.notes.looked);
         cancels = ap (λ v. v.notes.cancels) is ∙ sym (append-nil before.knows.notes.cancels);
       }
 
   -- it was at the gate and got this answer
-  gated : (cancel : Option (ℕ × ℕ)) (before after : PostModel D) (o : Offer D) (answer : Result ℕ GateNo) → before.knows.work ≡ Inactive o
+  gated : (seed : List ℕ) (cancel : Option (ℕ × ℕ)) (before after : PostModel D) (o : Offer D) (answer : Result ℕ GateNo) → before.knows.work ≡ Inactive o
       → after.table ≡ before.table → after.slot ≡ before.slot → child_in after.knows.work ≡ Some o → after.knows.past ≡ before.knows.past
-      → after.knows.notes.heard ≡ before.knows.notes.heard → after.knows.notes.now.met ≡ Some answer → after.knows.notes.cancels ≡ before.knows.notes.cancels
-      → IsAnswerTo o.generation (is_session o.kind) answer → Follows (record { post = before; cancel = cancel }) (record { post = after; cancel = cancel })
-  gated cancel before after o answer does t sl child past heard met cancels right =
+      → after.knows.notes.heard ≡ before.knows.notes.heard → after.knows.notes.now.met ≡ Some answer → after.knows.notes.looked ≡ before.knows.notes.looked
+      → after.knows.notes.cancels ≡ before.knows.notes.cancels
+      → IsAnswerTo o.generation (is_session o.kind) answer → Follows (record { post = before; seed = seed; cancel = cancel }) (record { post = after; seed = seed; cancel = cancel })
+  gated seed cancel before after o answer does t sl child past heard met looks cancels right =
       record {
         table = t;
         slot = sl;
+        seed = refl;
         child = child ∙ sym (ap child_in does);
         past = past;
         heard = heard;
         met = λ p e m.
             let same : o ≡ p = ap (child_or o) (sym (ap child_in does) ∙ e) in
             subst (MetRightly p) (sym met) (subst (λ (q : Offer D). IsAnswerTo q.generation (is_session q.kind) answer) same right);
+        looked = [];
         made = [];
-        makes = same_makes cancel;
+        makes = λ its many _ _. same_makes cancel its many;
+        looks = looks ∙ sym (append-nil before.knows.notes.looked);
         cancels = cancels ∙ sym (append-nil before.knows.notes.cancels);
       }
 
-  gated_by : (cancel : Option (ℕ × ℕ)) (before after : PostModel D) (o : Offer D) (answer : Result ℕ GateNo) (word : ℕ) → before.knows.work ≡ Inactive o
+  gated_by : (seed : List ℕ) (cancel : Option (ℕ × ℕ)) (before after : PostModel D) (o : Offer D) (answer : Result ℕ GateNo) (word : ℕ) → before.knows.work ≡ Inactive o
       → after.table ≡ before.table → after.slot ≡ before.slot → after.knows ≡ after_attach before.knows o word answer
-      → IsAnswerTo o.generation (is_session o.kind) answer → Follows (record { post = before; cancel = cancel }) (record { post = after; cancel = cancel })
-  gated_by cancel before after o (Ok g) word does t sl is right =
-      gated cancel before after o (Ok g) does t sl (ap (λ v. child_in v.work) is) (ap (λ v. v.past) is) (ap (λ v. v.notes.heard) is) (ap (λ v. v.notes.now.met) is) (ap (λ v. v.notes.cancels) is) right
-  gated_by cancel before after o (Err refusal) word does t sl is right =
-      gated cancel before after o (Err refusal) does t sl (ap (λ v. child_in v.work) is) (ap (λ v. v.past) is) (ap (λ v. v.notes.heard) is) (ap (λ v. v.notes.now.met) is) (ap (λ v. v.notes.cancels) is) right
+      → IsAnswerTo o.generation (is_session o.kind) answer → Follows (record { post = before; seed = seed; cancel = cancel }) (record { post = after; seed = seed; cancel = cancel })
+  gated_by seed cancel before after o (Ok g) word does t sl is right =
+      gated seed cancel before after o (Ok g) does t sl (ap (λ v. child_in v.work) is) (ap (λ v. v.past) is) (ap (λ v. v.notes.heard) is) (ap (λ v. v.notes.now.met) is) (ap (λ v. v.notes.looked) is)
+      (ap (λ v. v.notes.cancels) is) right
+  gated_by seed cancel before after o (Err refusal) word does t sl is right =
+      gated seed cancel before after o (Err refusal) does t sl (ap (λ v. child_in v.work) is) (ap (λ v. v.past) is) (ap (λ v. v.notes.heard) is) (ap (λ v. v.notes.now.met) is) (ap (λ v. v.notes.looked) is)
+      (ap (λ v. v.notes.cancels) is) right
 
-  pub attaches : (cancel : Option (ℕ × ℕ)) (before after : PostModel D) (answer : Result Token GateNo) → MayAttach before.knows.work
+  pub attaches : (seed : List ℕ) (cancel : Option (ℕ × ℕ)) (before after : PostModel D) (answer : Result Token GateNo) → MayAttach before.knows.work
       → after.table ≡ before.table → after.slot ≡ before.slot → HasAttached answer before.knows after.knows
-      → Follows (record { post = before; cancel = cancel }) (record { post = after; cancel = cancel })
-  attaches cancel before after answer may t sl met =
+      → Follows (record { post = before; seed = seed; cancel = cancel }) (record { post = after; seed = seed; cancel = cancel })
+  attaches seed cancel before after answer may t sl met =
       let o = may.0 in
       let m = met o may.1 in
-      gated_by cancel before after o (answer_of answer) m.0 may.1 t sl m.2
+      gated_by seed cancel before after o (answer_of answer) m.0 may.1 t sl m.2
       (subst (IsAnswerTo o.generation (is_session o.kind)) (sym m.1)
       (subst (λ (g : ℕ). IsAnswerTo g (is_session o.kind) (gate_answer o.kind before.knows.notes.session_limit m.0)) m.3
       (answers_rightly (is_session o.kind) before.knows.notes.session_limit (notice_in m.0) m.0)))
@@ -211,15 +234,15 @@ module _ {D : Type 0} where
       subst (LivesAs pid (Some token)) (sym is.1) (pid_of pid attached o (subst (LivesAs pid attached) may.1 lives) ∙ ap (λ (q : Offer D). q.pid) same, refl)
 
   -- it has let go
-  pub record Lets (pid : ℕ) (cancel : Option (ℕ × ℕ)) (before after : PostModel D) : Type 0 where
+  pub record Lets (pid : ℕ) (seed : List ℕ) (cancel : Option (ℕ × ℕ)) (before after : PostModel D) : Type 0 where
     pub lives : LivesAs pid None after.knows.work
-    pub follows : Follows (record { post = before; cancel = cancel }) (record { post = after; cancel = cancel })
+    pub follows : Follows (record { post = before; seed = seed; cancel = cancel }) (record { post = after; seed = seed; cancel = cancel })
     pub child : child_by after.knows.work ≡ let_go (child_by before.knows.work)
     pub now : after.knows.notes.now ≡ before.knows.notes.now
 
-  lets_by : (pid : ℕ) (token : Token) (cancel : Option (ℕ × ℕ)) (before after : PostModel D) (work : Work D) → before.knows.work ≡ work → LivesAs pid (Some token) work
-      → after.table ≡ before.table → after.slot ≡ before.slot → HasLeft token.generation before.knows after.knows → Lets pid cancel before after
-  lets_by pid token cancel before after (Attached o g) e h t s left =
+  lets_by : (pid : ℕ) (token : Token) (seed : List ℕ) (cancel : Option (ℕ × ℕ)) (before after : PostModel D) (work : Work D) → before.knows.work ≡ work → LivesAs pid (Some token) work
+      → after.table ≡ before.table → after.slot ≡ before.slot → HasLeft token.generation before.knows after.knows → Lets pid seed cancel before after
+  lets_by pid token seed cancel before after (Attached o g) e h t s left =
       let is = left o (e ∙ ap (λ n. Attached o n) (sym h.1)) in
       record {
         lives = subst (LivesAs pid None) (sym (ap (λ w. w.work) is)) h.0;
@@ -227,41 +250,47 @@ module _ {D : Type 0} where
             record {
               table = t;
               slot = s;
+              seed = refl;
               child = ap (λ w. child_in w.work) is ∙ sym (ap child_in e);
               past = ap (λ w. w.past) is;
               heard = ap (λ w. w.notes.heard) is;
               met = λ p _ m. subst (MetRightly p) (sym (ap (λ v. v.notes.now.met) is)) m;
+              looked = [];
               made = [];
-              makes = same_makes cancel;
+              makes = λ its many _ _. same_makes cancel its many;
+              looks = ap (λ v. v.notes.looked) is ∙ sym (append-nil before.knows.notes.looked);
               cancels = ap (λ v. v.notes.cancels) is ∙ sym (append-nil before.knows.notes.cancels);
             };
         child = ap (λ w. child_by w.work) is ∙ sym (ap (λ w. let_go (child_by w)) e);
         now = ap (λ w. w.notes.now) is;
       }
-  lets_by pid token cancel before after Idle e h t s left = elim h [ ]
-  lets_by pid token cancel before after (Sees _) e h t s left = elim h [ ]
-  lets_by pid token cancel before after (Inactive _) e h t s left = elim h [ ]
-  lets_by pid token cancel before after (Active _) e h t s left = elim h [ ]
-  lets_by pid token cancel before after (Refused _ _) e h t s left = elim h [ ]
+  lets_by pid token seed cancel before after Idle e h t s left = elim h [ ]
+  lets_by pid token seed cancel before after (Sees _) e h t s left = elim h [ ]
+  lets_by pid token seed cancel before after (Inactive _) e h t s left = elim h [ ]
+  lets_by pid token seed cancel before after (Active _) e h t s left = elim h [ ]
+  lets_by pid token seed cancel before after (Refused _ _) e h t s left = elim h [ ]
 
-  pub lets : (pid : ℕ) (token : Token) (cancel : Option (ℕ × ℕ)) (before after : PostModel D) → LivesAs pid (Some token) before.knows.work
-      → after.table ≡ before.table → after.slot ≡ before.slot → HasLeft token.generation before.knows after.knows → Lets pid cancel before after
-  lets pid token cancel before after h t s left = lets_by pid token cancel before after before.knows.work refl h t s left
+  pub lets : (pid : ℕ) (token : Token) (seed : List ℕ) (cancel : Option (ℕ × ℕ)) (before after : PostModel D) → LivesAs pid (Some token) before.knows.work
+      → after.table ≡ before.table → after.slot ≡ before.slot → HasLeft token.generation before.knows after.knows → Lets pid seed cancel before after
+  lets pid token seed cancel before after h t s left = lets_by pid token seed cancel before after before.knows.work refl h t s left
 
   asks_first : (seed : List ℕ) (pid key : ℕ) (answer : Cancelled) (before after : PostModel D) → after.table ≡ before.table → after.slot ≡ before.slot
       → HasAsked (request seed pid key) answer before after
-      → Follows (record { post = before; cancel = None }) (record { post = after; cancel = Some (pid, key) }) × (after.knows.notes.now ≡ before.knows.notes.now) × (after.knows.work ≡ before.knows.work)
+      → Follows (record { post = before; seed = seed; cancel = None }) (record { post = after; seed = seed; cancel = Some (pid, key) }) × (after.knows.notes.now ≡ before.knows.notes.now) × (after.knows.work ≡ before.knows.work)
   asks_first seed pid key WrongKey before after t s asked =
       let is = asked.1 in (
         record {
           table = t;
           slot = s;
+          seed = refl;
           child = ap (λ w. child_in w.work) is;
           past = ap (λ w. w.past) is;
           heard = ap (λ w. w.notes.heard) is;
           met = λ o _ m. subst (MetRightly o) (sym (ap (λ v. v.notes.now.met) is)) m;
+          looked = [];
           made = [];
-          makes = no_makes (pid, key);
+          makes = first_makes seed (child_slots before.table.slots) (pid, key) [] [] (inl (asked.0, refl, refl));
+          looks = ap (λ w. w.notes.looked) is ∙ sym (append-nil before.knows.notes.looked);
           cancels = ap (λ w. w.notes.cancels) is ∙ sym (append-nil before.knows.notes.cancels);
         },
         ap (λ w. w.notes.now) is,
@@ -272,12 +301,17 @@ module _ {D : Type 0} where
         record {
           table = t;
           slot = s;
+          seed = refl;
           child = ap (λ w. child_in w.work) is;
           past = ap (λ w. w.past) is;
           heard = ap (λ w. w.notes.heard) is;
           met = λ o _ m. subst (MetRightly o) (sym (ap (λ v. v.notes.now.met) is)) m;
+          looked = looks_from 0 asked.1.0;
           made = [];
-          makes = no_makes (pid, key);
+          makes =
+              first_makes seed (child_slots before.table.slots) (pid, key) (looks_from 0 asked.1.0) []
+              (inr (asked.0, inl (record { words = asked.1.0; all = asked.1.1; none = asked.1.2; looks = refl; makes = refl })));
+          looks = ap (λ w. w.notes.looked) is;
           cancels = ap (λ w. w.notes.cancels) is ∙ sym (append-nil before.knows.notes.cancels);
         },
         ap (λ w. w.notes.now) is,
@@ -288,12 +322,17 @@ module _ {D : Type 0} where
         record {
           table = t;
           slot = s;
+          seed = refl;
           child = ap (λ w. child_in w.work) is;
           past = ap (λ w. w.past) is;
           heard = ap (λ w. w.notes.heard) is;
           met = λ o _ m. subst (MetRightly o) (sym (ap (λ v. v.notes.now.met) is)) m;
+          looked = looks_from 0 (asked.1.0 ++ asked.1.1 ∷ []);
           made = cancel_of (length asked.1.0) seed pid key ∷ [];
-          makes = first_makes (pid, key) (cancel_of (length asked.1.0) seed pid key) refl refl;
+          makes =
+              first_makes seed (child_slots before.table.slots) (pid, key) (looks_from 0 (asked.1.0 ++ asked.1.1 ∷ [])) (cancel_of (length asked.1.0) seed pid key ∷ [])
+              (inr (asked.0, inr (record { words = asked.1.0; word = asked.1.1; below = asked.1.2; none = asked.1.3; armed = asked.1.4; looks = refl; makes = refl })));
+          looks = ap (λ w. w.notes.looked) is;
           cancels = ap (λ w. w.notes.cancels) is;
         },
         ap (λ w. w.notes.now) is,
@@ -302,22 +341,25 @@ module _ {D : Type 0} where
 
   pub asks : (cancel : Option (ℕ × ℕ)) → option_to_list cancel ≡ [] → (seed : List ℕ) (pid key : ℕ) (answer : Cancelled) (before after : PostModel D) → after.table ≡ before.table
       → after.slot ≡ before.slot → HasAsked (request seed pid key) answer before after
-      → Follows (record { post = before; cancel = cancel }) (record { post = after; cancel = Some (pid, key) }) × (after.knows.notes.now ≡ before.knows.notes.now) × (after.knows.work ≡ before.knows.work)
+      → Follows (record { post = before; seed = seed; cancel = cancel }) (record { post = after; seed = seed; cancel = Some (pid, key) }) × (after.knows.notes.now ≡ before.knows.notes.now) × (after.knows.work ≡ before.knows.work)
   asks cancel none seed pid key answer before after t s asked =
-      subst (λ (c : Option (ℕ × ℕ)). Follows (record { post = before; cancel = c }) (record { post = after; cancel = Some (pid, key) }) × (after.knows.notes.now ≡ before.knows.notes.now) × (after.knows.work ≡ before.knows.work))
+      subst (λ (c : Option (ℕ × ℕ)). Follows (record { post = before; seed = seed; cancel = c }) (record { post = after; seed = seed; cancel = Some (pid, key) }) × (after.knows.notes.now ≡ before.knows.notes.now) × (after.knows.work ≡ before.knows.work))
       (sym (none_asked cancel none)) (asks_first seed pid key answer before after t s asked)
 
   -- at the start
-  pub begins : (post : PostModel D) → post.knows.notes.now ≡ no_signals → GoesOn post (record { post = post; cancel = None })
-  begins post untold =
+  pub begins : (post : PostModel D) (seed : List ℕ) → post.knows.notes.now ≡ no_signals → GoesOn (beginning post seed) (record { post = post; seed = seed; cancel = None })
+  begins post seed untold =
       record {
         table = refl;
         slot = refl;
+        seed = refl;
         child = refl;
         past = refl;
         heard = refl;
         met = λ o _. subst (MetRightly o) (sym (ap (λ (h : Heard). h.met) untold)) tt;
+        looked = [];
         made = [];
-        makes = refl;
+        makes = (refl, refl);
+        looks = sym (append-nil post.knows.notes.looked);
         cancels = sym (append-nil post.knows.notes.cancels);
       }

@@ -1,1 +1,2 @@
 pub mod Lives
+pub use Rattle.pm_latch.specs as pm_latch

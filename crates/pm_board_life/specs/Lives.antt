@@ -1,7 +1,8 @@
 -- What the life of a child tells that runs on a post.
-use Rattle.std.specs.{Prelude.{◌≡◌, ◌⊎◌, ℕ, Bool, true, false, List, [], ◌∷◌, ◌++◌, Option, Some, None, Result, Ok, Err, IfSome}, List.fold, Option.option_to_list}
+use Rattle.std.specs.{Prelude.{◌≡◌, ◌⊎◌, ℕ, ◌<◌, Bool, true, false, List, [], ◌∷◌, ◌++◌, Option, Some, None, Result, Ok, Err, IfSome, length}, List.fold, Option.option_to_list}
 use Rattle.pm_gate.specs.{pm_supervisor.Children.{is_dead_end, is_session}, declared.tokens.Attached.Attached as Token}
-use Rattle.pm_board.specs.{pm_child_life.{declared.life.{GateNo.{GateNo, TheVariants.{Quit, NotReady, TooMany}}, Signals.Signals}, Life.{Child, Told, nothing_told, asked_again}}, declared.views.{Cancel.Cancel, Heard.Heard, Offer.Offer, Work.{Work, TheVariants.{Idle, Sees, Inactive, Active, Refused, Attached}}}, Told.child_in, Models.PostModel}
+use Rattle.pm_board.specs.{pm_child_life.{declared.life.{GateNo.{GateNo, TheVariants.{Quit, NotReady, TooMany}}, Signals.Signals}, Life.{Child, Told, nothing_told, asked_again}}, Slots.child_slots, declared.views.{Cancel.Cancel, Heard.Heard, LatchLook.LatchLook, Offer.Offer, Work.{Work, TheVariants.{Idle, Sees, Inactive, Active, Refused, Attached}}}, Latch.latch_pid, Told.child_in, Models.{PostModel, cancel_of}}
+use Rattle.pm_latch.specs.Cancelling.{Request, request, HasKey, looks_from, NoneFor}
 
 -- ---- what it was told
 
@@ -31,10 +32,35 @@ MetRightly o met = IfSome met (IsAnswerTo o.generation (is_session o.kind))
 
 -- ---- the cancel that it asked for
 
--- none was made but, perhaps, that one
-abbrev pub Makes : Option (ℕ × ℕ) → List Cancel → Type 0
-Makes None made = made ≡ []
-Makes (Some asked) made = (made ≡ []) ⊎ ((x : Cancel) × (x.pid ≡ asked.0) × (x.key ≡ asked.1) × (made ≡ x ∷ []))
+-- The latches of all slots were looked at in order, and none was armed for the pid, so that no cancel was made.
+pub record FindsNobody (r : Request) (slots : ℕ) (looked : List LatchLook) (made : List Cancel) : Type 0 where
+  pub words : List ℕ
+  pub all : length words ≡ slots
+  pub none : NoneFor r.pid words
+  pub looks : looked ≡ looks_from 0 words
+  pub makes : made ≡ []
+
+-- They were looked at up to the first that was armed for the pid, and on its slot the cancel was made.
+pub record FindsSomebody (r : Request) (slots : ℕ) (looked : List LatchLook) (made : List Cancel) : Type 0 where
+  pub words : List ℕ
+  pub word : ℕ
+  pub below : length words < slots
+  pub none : NoneFor r.pid words
+  pub armed : latch_pid word ≡ r.pid
+  pub looks : looked ≡ looks_from 0 (words ++ word ∷ [])
+  pub makes : made ≡ cancel_of (length words) r.seed r.pid r.key ∷ []
+
+-- What a request made on a board of so many slots, and the latches that were looked at for it: none without the key of the pid.
+abbrev pub IsJudged : Request → (slots : ℕ) → List LatchLook → List Cancel → Type 0
+IsJudged r slots looked made =
+    ((¬ (HasKey r)) × (looked ≡ []) × (made ≡ [])) ⊎ (HasKey r × (FindsNobody r slots looked made ⊎ FindsSomebody r slots looked made))
+
+-- what judges a request: the seed of the server's keys, and a board of so many slots
+module _ (seed : List ℕ) (slots : ℕ) where
+  -- of a child that asked for the cancel of this pid and key, or for none
+  abbrev pub Makes : Option (ℕ × ℕ) → List LatchLook → List Cancel → Type 0
+  Makes None looked made = (looked ≡ []) × (made ≡ [])
+  Makes (Some asked) looked made = IsJudged (request seed asked.0 asked.1) slots looked made
 
 -- ---- the child and its post
 
@@ -68,24 +94,36 @@ module _ {D : Type 0} where
   attached_of (Attached o g) = Some g
   attached_of _ = None
 
--- a child's post, and pid and key of the cancel that it asked for, if it did
+-- a child's post, the seed that cancels are judged by, and pid and key of the cancel that the child asked for, if it did
 pub record LifeModel (D : Type 0) : Type 0 where
   pub post : PostModel D
+  pub seed : List ℕ
   pub cancel : Option (ℕ × ℕ)
 
-module _ {D : Type 0} where
-  -- The same child runs on the same post, that has had the same children before. It met at the gate what is right for it, and the
-  -- post has made no cancel since but the one that the child asked for.
-  pub record GoesOn (before : PostModel D) (now : LifeModel D) : Type 0 where
-    pub table : now.post.table ≡ before.table
-    pub slot : now.post.slot ≡ before.slot
-    pub child : child_in now.post.knows.work ≡ child_in before.knows.work
-    pub past : now.post.knows.past ≡ before.knows.past
-    pub heard : now.post.knows.notes.heard ≡ before.knows.notes.heard
-    pub met : (o : Offer D) → child_in before.knows.work ≡ Some o → MetRightly o now.post.knows.notes.now.met
-    pub made : List Cancel
-    pub makes : Makes now.cancel made
-    pub cancels : now.post.knows.notes.cancels ≡ before.knows.notes.cancels ++ made
+-- what a life is made of: the post on which a child was just started, and the seed of the server's keys
+pub record Beginning (D : Type 0) : Type 0 where
+  pub post : PostModel D
+  pub seed : List ℕ
 
-  abbrev pub GoesOnFrom : Option (PostModel D) → LifeModel D → Type 0
-  GoesOnFrom begun now = IfSome begun (λ before. GoesOn before now)
+abbrev pub beginning : {D : Type 0} → PostModel D → List ℕ → Beginning D
+beginning post seed = record { post = post; seed = seed }
+
+module _ {D : Type 0} where
+  -- The same child runs on the same post, that has had the same children before, under the same seed. It met at the gate what is
+  -- right for it, and since then the post has looked at latches and made a cancel only as the child asked for.
+  pub record GoesOn (first : Beginning D) (now : LifeModel D) : Type 0 where
+    pub table : now.post.table ≡ first.post.table
+    pub slot : now.post.slot ≡ first.post.slot
+    pub seed : now.seed ≡ first.seed
+    pub child : child_in now.post.knows.work ≡ child_in first.post.knows.work
+    pub past : now.post.knows.past ≡ first.post.knows.past
+    pub heard : now.post.knows.notes.heard ≡ first.post.knows.notes.heard
+    pub met : (o : Offer D) → child_in first.post.knows.work ≡ Some o → MetRightly o now.post.knows.notes.now.met
+    pub looked : List LatchLook
+    pub made : List Cancel
+    pub makes : Makes first.seed (child_slots first.post.table.slots) now.cancel looked made
+    pub looks : now.post.knows.notes.looked ≡ first.post.knows.notes.looked ++ looked
+    pub cancels : now.post.knows.notes.cancels ≡ first.post.knows.notes.cancels ++ made
+
+  abbrev pub GoesOnFrom : Option (Beginning D) → LifeModel D → Type 0
+  GoesOnFrom begun now = IfSome begun (λ first. GoesOn first now)

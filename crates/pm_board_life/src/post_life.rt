@@ -1,16 +1,16 @@
 //! The life of a child that runs on a post.
 ghost use Rattle.std.specs.Prelude.{◌≡◌, Some, None, Option};
-ghost use Rattle.pm_board.specs.{declared.views.{Work.TheVariants.Inactive, Offer.Offer}, Models.PostModel, Rule.no_signals};
-ghost use Rattle.pm_board_life.specs.Lives.{LifeModel, LivesAs, GoesOnFrom, IsLiving};
+ghost use Rattle.pm_board.specs.{declared.views.{Work.TheVariants.Inactive, Offer.Offer}, Rule.no_signals};
+ghost use Rattle.pm_board_life.specs.Lives.{Beginning, LifeModel, LivesAs, GoesOnFrom, IsLiving, beginning};
 
 use pm_board::{Letter, Post};
 use pm_child_life::{Cancelled, GateNo, Life, Signals};
 use pm_gate::Attached;
 use std::marker::{Brand, Model, PhantomData};
 
-/// What a post knew when its child was started. Each call that runs a child picks it.
+/// What a post knew when its child was started, and the seed of the server's keys. Each call that runs a child picks it.
 pub trait Begun<D> {
-    ghost begun: { Option (PostModel D) };
+    ghost begun: { Option (Beginning D) };
 }
 
 impl<D> Begun<D> for Brand {
@@ -31,10 +31,10 @@ pub struct PostLife<J: Letter + Drop, K: Begun<J::Told>> {
 impl<J: Letter + Drop, K: Begun<J::Told>> Model for PostLife<J, K> {
     ghost Value = { LifeModel J.Told };
 
-    ghost view = { λ l. record { post = l.post; cancel = l.cancel } };
+    ghost view = { λ l. record { post = l.post; seed = l.seed; cancel = l.cancel } };
 
     ghost invariant = { λ l. LivesAs l.pid l.attached l.post.knows.work
-        × GoesOnFrom K.begun (record { post = l.post; cancel = l.cancel }) };
+        × GoesOnFrom K.begun (record { post = l.post; seed = l.seed; cancel = l.cancel }) };
 }
 
 impl<J: Letter + Drop, K: Begun<J::Told>> PostLife<J, K> {
@@ -42,8 +42,8 @@ impl<J: Letter + Drop, K: Begun<J::Told>> PostLife<J, K> {
     pub fn new(post: Post<J>, pid: u32, seed: [u8; 32]) -> PostLife<J, K>
         requires runs { (o : Offer J.Told) × (post.knows.work ≡ Inactive o) × (o.pid ≡ pid) }
         requires untold { post.knows.notes.now ≡ no_signals }
-        requires begun { K.begun ≡ Some post }
-        ensures { result ≡ record { post = post; cancel = None } }
+        requires begun { K.begun ≡ Some (beginning post seed) }
+        ensures { result ≡ record { post = post; seed = seed; cancel = None } }
     {
         PostLife {
             post,

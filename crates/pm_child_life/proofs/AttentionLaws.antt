@@ -1,6 +1,6 @@
 -- Laws of what a child was told and hears, from one moment to the next, and of what stands.
 use Rattle.std.{proofs.Common.{◌≡◌, inl, inr, ℕ, ◌+◌, Option, None, Some, Result, refl, ◌∙◌, subst, arith}, specs.Option.option_map}
-use Rattle.pm_child_life.specs.{declared.{standing.Standing.Standing, life.GateNo.GateNo}, Life.{Child, Told, Signal, Cancel, met_at_gate, was_told}, Attention.{Attention, attention, was_given, Stands, IsAttentive, IsBy, HasAsked, KeepsCancels, Gains, HasGained, GivenSince, Hears}}
+use Rattle.pm_child_life.specs.{declared.{standing.Standing.Standing, life.GateNo.GateNo}, Life.{Child, Told, Signal, Cancel, met_at_gate, was_told}, Attention.{Attention, attention, was_given, Stands, IsAttentive, IsBy, HasAsked, KeepsCancels, Gains, HasGained, GivenSince, GivenNoMore, Hears}}
 
 -- ---- what was told, from one moment to the next
 
@@ -32,7 +32,7 @@ gains_both m n a b c first second one two = record {
   ];
 }
 
-gained_then : (m n : ℕ) (a b c : Option Told) → HasAsked m a b → HasAsked n b c → HasGained a b → HasGained b c → HasGained a c
+pub gained_then : (m n : ℕ) (a b c : Option Told) → HasAsked m a b → HasAsked n b c → HasGained a b → HasGained b c → HasGained a c
 gained_then m n None b c first second one two = tt
 gained_then m n (Some a) None c first second one two = absurd first
 gained_then m n (Some a) (Some b) None first second one two = absurd second
@@ -60,6 +60,17 @@ since_later n signal None b c since asked gained = tt
 since_later n signal (Some a) None c since asked gained = absurd since
 since_later n signal (Some a) (Some b) None since asked gained = absurd asked
 since_later n signal (Some a) (Some b) (Some c) since asked gained = (since.0, gained.kept since.0 signal since.1, (since.2.0, omega (arith, since.2.1, asked.0)))
+
+-- a signal that was given no more
+pub no_more_none : (signal : Signal) (told : Option Told) → GivenNoMore signal told told
+no_more_none signal None = tt
+no_more_none signal (Some told) = λ ask has. has
+
+pub no_more_then : (signal : Signal) (a b c : Option Told) → GivenNoMore signal a b → GivenNoMore signal b c → GivenNoMore signal a c
+no_more_then signal None b c one two = tt
+no_more_then signal (Some a) None c one two = absurd one
+no_more_then signal (Some a) (Some b) None one two = absurd two
+no_more_then signal (Some a) (Some b) (Some c) one two = λ ask has. one ask (two ask has)
 
 pub hears_none : (at : Attention) → Hears 0 at at
 hears_none at = record {
@@ -120,4 +131,5 @@ attentive_at_gate answer (Some told) now child_before child standing e stands = 
   terminate = stands.terminate;
   cancel = stands.cancel;
   checkpoint = stands.checkpoint;
+  asked = stands.asked;
 })

@@ -1,7 +1,7 @@
 -- The signals of one answer, and what stands after it.
 use Rattle.std.{proofs.{Common.{◌≡◌, ◌≢◌, ◌↔◌, ◌⊎◌, inl, inr, ℕ, ◌+◌, ◌-◌, ◌<◌, ◌||◌, Bool, true, false, IsTrue, List, [], ◌∷◌, ◌++◌, length, get_or, Option, None, Some, refl, sym, ◌∙◌, ap, subst, arith}, lemmas.{List.{length-map, get_or-map, Elements.{Contains-append_left, Contains-append_right, Contains-append_cases, Contains-push, Contains-push_cases}}, Bool.true≢false}}, specs.{Option.{option_map, option_or}, List.Contains}}
 use Rattle.pm_supervisor.specs.declared.Reason.{Reason}
-use Rattle.pm_child_life.specs.{declared.{life.Signals.Signals, standing.Standing.Standing}, Life.{Child, Told, Signal, Kill, Quit, Terminate, Cancel, Checkpoint, one_if, quit_in, signals_in, next_ask, numbered, asked_again, was_told}, Attention.{attention, with_signals, was_given, Stands, IsAttentive, HasAsked, KeepsCancels, HasGained, GivenSince, Hears}}
+use Rattle.pm_child_life.specs.{declared.{life.Signals.Signals, standing.Standing.Standing}, Life.{Child, Told, Signal, Kill, Quit, Terminate, Cancel, Checkpoint, one_if, quit_in, signals_in, next_ask, numbered, asked_again, was_told}, Attention.{attention, with_signals, was_given, Stands, IsAttentive, IsBy, HasAsked, KeepsCancels, HasGained, GivenSince, GivenNoMore, CancelStands, Hears}}
 
 -- ---- the signals of one answer
 
@@ -132,6 +132,14 @@ quit_stands signals standing told None is stands reason has =
       | inr h ↦ let took : signals.quit ≡ Some reason = in_took signals (Quit reason) h in absurd cc
     ]
 
+asked_by_now : (signals : Signals) (standing : Standing) (told : Told) → Stands standing told → (ask : ℕ) (signal : Signal) → Contains (asked_again signals told).given (ask, signal) → IsBy ask (asked_again signals told).asked
+asked_by_now signals standing told stands ask signal has =
+    let number = next_ask told.asked in
+    elim (Contains-append_cases told.given (numbered number (signals_in signals)) (ask, signal) has) [
+      | inl h ↦ let by : IsBy ask told.asked = stands.asked ask signal h in omega (arith, by)
+      | inr h ↦ let same = (numbered_contains number ask (signals_in signals) signal h).0 in omega (arith, same)
+    ]
+
 still_stands : (signals : Signals) (standing : Standing) (told : Told) → Stands standing told → Stands (with_signals signals standing) (asked_again signals told)
 still_stands s standing told stands = record {
   kill = one_stands s told standing.kill s.kill Kill stands.kill (took_in s Kill) (in_took s Kill);
@@ -140,6 +148,7 @@ still_stands s standing told stands = record {
   terminate = one_stands s told standing.terminate s.terminate Terminate stands.terminate (took_in s Terminate) (in_took s Terminate);
   cancel = either_in standing.cancel s.cancel (was_told Cancel told) (Contains (signals_in s) Cancel) (was_told Cancel (asked_again s told)) stands.cancel (took_in s Cancel) (told_still s told Cancel) (told_now s told Cancel);
   checkpoint = one_stands s told standing.checkpoint s.checkpoint Checkpoint stands.checkpoint (took_in s Checkpoint) (in_took s Checkpoint);
+  asked = asked_by_now s standing told stands;
 }
 
 -- ---- one ask
@@ -179,6 +188,21 @@ since_now signals (Some told) is =
 cancel_now : (signals : Signals) (before : Option Told) (stood : Bool) → IsTrue (stood || signals.cancel) → IsTrue stood ⊎ GivenSince Cancel before (option_map (asked_again signals) before)
 cancel_now signals before true is = inl refl
 cancel_now signals before false is = inr (since_now signals before is)
+
+no_cancel_in : (signals : Signals) (stood : Bool) → (stood || signals.cancel) ≡ false → Contains (signals_in signals) Cancel → ⊥
+no_cancel_in signals true none has = true≢false none
+no_cancel_in signals false none has = let took : signals.cancel ≡ true = in_took signals Cancel has in true≢false (sym took ∙ none)
+
+none_now : (signals : Signals) (before : Option Told) (stood : Bool) → (stood || signals.cancel) ≡ false → GivenNoMore Cancel before (option_map (asked_again signals) before)
+none_now signals None stood none = tt
+none_now signals (Some told) stood none = λ ask has. elim (Contains-append_cases told.given (numbered (next_ask told.asked) (signals_in signals)) (ask, Cancel) has) [
+  | inl h ↦ h
+  | inr h ↦ absurd (no_cancel_in signals stood none ((numbered_contains (next_ask told.asked) ask (signals_in signals) Cancel h).1))
+]
+
+pub cancel_stands : (signals : Signals) (before now : Option Told) (child_before child : Child) (standing : Standing) → now ≡ option_map (asked_again signals) before
+    → CancelStands (attention before child_before standing) (attention now child (with_signals signals standing))
+cancel_stands signals before now child_before child standing e = rw e (none_now signals before standing.cancel)
 
 pub attentive_now : (signals : Signals) (before : Option Told) (child_before child : Child) (standing : Standing) → IsAttentive (attention before child_before standing)
     → IsAttentive (attention (option_map (asked_again signals) before) child (with_signals signals standing))

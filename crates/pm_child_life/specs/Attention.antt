@@ -32,7 +32,12 @@ attention told child standing = record { told = told; child = child; standing = 
 abbrev pub was_given : Signal → Option Told → Type 0
 was_given signal told = IfSome told (was_told signal)
 
--- What stands was told, and of what was told all stands but a cancel, which may have been heeded or dropped.
+-- this ask was made by then, as far as asks are numbered
+abbrev pub IsBy : (ask asked : ℕ) → Type 0
+IsBy ask asked = min ask (2 ^ 64 - 1) ≤ asked
+
+-- What stands was told, and of what was told all stands but a cancel, which may have been heeded or dropped. Each signal was
+-- given at an ask that was made by then.
 pub record Stands (standing : Standing) (told : Told) : Type 0 where
   pub kill : IsTrue standing.kill ↔ was_told Kill told
   pub quit : (reason : Reason) → standing.quit ≡ Some reason → was_told (Quit reason) told
@@ -40,13 +45,10 @@ pub record Stands (standing : Standing) (told : Told) : Type 0 where
   pub terminate : IsTrue standing.terminate ↔ was_told Terminate told
   pub cancel : IsTrue standing.cancel → was_told Cancel told
   pub checkpoint : IsTrue standing.checkpoint ↔ was_told Checkpoint told
+  pub asked : (ask : ℕ) (signal : Signal) → Contains told.given (ask, signal) → IsBy ask told.asked
 
 abbrev pub IsAttentive : Attention → Type 0
 IsAttentive at = IfSome at.told (Stands at.standing)
-
--- this ask was made by then, as far as asks are numbered
-abbrev pub IsBy : (ask asked : ℕ) → Type 0
-IsBy ask asked = min ask (2 ^ 64 - 1) ≤ asked
 
 -- it has asked so often at least, up to the last number, and was at the gate no more
 abbrev pub HasAsked : ℕ → (before now : Option Told) → Type 0
@@ -79,6 +81,16 @@ abbrev pub GivenSince : Signal → (before now : Option Told) → Type 0
 GivenSince signal None now = Unit {0}
 GivenSince signal (Some before) None = ⊥
 GivenSince signal (Some before) (Some now) = (ask : ℕ) × Contains now.given (ask, signal) × IsAskSince before now ask
+
+-- it was given no more, as far as asks are numbered
+abbrev pub GivenNoMore : Signal → (before now : Option Told) → Type 0
+GivenNoMore signal None now = Unit {0}
+GivenNoMore signal (Some before) None = ⊥
+GivenNoMore signal (Some before) (Some now) = (ask : ℕ) → Contains now.given (ask, signal) → Contains before.given (ask, signal)
+
+-- a cancel that was given between the two moments stands
+abbrev pub CancelStands : (before now : Attention) → Type 0
+CancelStands before now = now.standing.cancel ≡ false → GivenNoMore Cancel before.told now.told
 
 -- Between two moments the child has asked for its signals so often at least, and kept all that it was given. A Kill that
 -- stands goes on standing, and a cancel that stands stood before or was given since.

@@ -1,6 +1,6 @@
 //! The signals that a child has taken and not heeded yet.
 ghost use Rattle.std.specs.Prelude.{◌≡◌};
-ghost use Rattle.pm_child_life.specs.Attention.{attention, nothing_stands, with_signals, Hears, IsAttentive};
+ghost use Rattle.pm_child_life.specs.Attention.{attention, nothing_stands, with_signals, CancelStands, Hears, IsAttentive};
 
 use crate::life::{Life, Signals};
 use pm_supervisor::Reason;
@@ -50,6 +50,8 @@ pub fn listen<F: Life>(life: &mut F, standing: &mut Standing)
         (attention (F.told life.new) (F.child life.new) standing.new) }
     ensures attentive { IsAttentive (attention (F.told life.new) (F.child life.new)
         standing.new) }
+    ensures cancel { CancelStands (attention (F.told life.old) (F.child life.old) standing.old)
+        (attention (F.told life.new) (F.child life.new) standing.new) }
 {
     *standing = standing.with(life.signals());
 }

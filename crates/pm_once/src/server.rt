@@ -18,7 +18,7 @@ use pm_query::BookEntry;
 use pm_segment::Sole;
 use pm_server::{ServerEnd, StartWhy, Why};
 use pm_server_lines::Log;
-use pm_session::SessionConf;
+use pm_session::{Means, SessionConf};
 use pm_state::PmEvent;
 use pm_supervisor::Ending;
 use pm_supervisor_journal::{Act, ChildExit, GenerationsSpent, Supervision, Taken};
@@ -342,12 +342,11 @@ impl<J: Chronicle<PmEvent>, O: Sink, D: Disk, B: Chronicle<BookEntry>> Server<J,
         };
         let admitted = self.admit(clock);
         self.outcome = None;
+        let means = Means { rt, alloc, clock };
         let Served { status, link } = serve_link(
-            rt,
-            alloc,
+            &means,
             link,
             admitted.pid,
-            clock,
             seed,
             conf,
             &mut self.store,

@@ -14,7 +14,6 @@ use pm_outside::{Accepted, Chronicle, Clock, Link, Port};
 use pm_query::BookEntry;
 use pm_segment::Sole;
 use pm_session::{Admission, Done, Means, SessionConf, serve};
-use std::alloc::Global;
 use std::marker::Brand;
 use std::sync::Wait;
 
@@ -48,11 +47,9 @@ pub struct Served<L> {
 
 /// Serves one link to its end, as the child with this pid, in the store's generation.
 pub fn serve_link<R, L, D, C, B>(
-    rt: &R,
-    alloc: Global,
+    means: &Means<'_, R, C>,
     link: L,
     pid: u32,
-    clock: &C,
     seed: &[u8; 32],
     conf: &SessionConf,
     store: &mut Sole<D, B>,
@@ -70,19 +67,18 @@ where
         × (connection.given ≡ link_view (L.traffic link) (L.number link) (L.faults link))
         × (connection.back ≡ link_view (L.traffic result.link) (L.number result.link)
         (L.faults result.link)) × (result.status ≡ status_of connection.ending)
-        × IsServedAs (cancel_key seed.now pid) conf.now.authentication_ms (C.gives clock.now)
-        connection × Moves connection.noted (moment store.old) (moment store.new) }
+        × IsServedAs (cancel_key seed.now pid) conf.now.authentication_ms
+        (C.gives means.now.clock.now) connection
+        × Moves connection.noted (moment store.old) (moment store.new) }
 {
-    serve_at_home::<Brand, R, L, D, C, B>(rt, alloc, link, pid, clock, seed, conf, store)
+    serve_at_home::<Brand, R, L, D, C, B>(means, link, pid, seed, conf, store)
 }
 
 // The same in a generation that is a type's.
 fn serve_at_home<H, R, L, D, C, B>(
-    rt: &R,
-    alloc: Global,
+    means: &Means<'_, R, C>,
     link: L,
     pid: u32,
-    clock: &C,
     seed: &[u8; 32],
     conf: &SessionConf,
     store: &mut Sole<D, B>,
@@ -102,8 +98,9 @@ where
         × (connection.given ≡ link_view (L.traffic link) (L.number link) (L.faults link))
         × (connection.back ≡ link_view (L.traffic result.link) (L.number result.link)
         (L.faults result.link)) × (result.status ≡ status_of connection.ending)
-        × IsServedAs (cancel_key seed.now pid) conf.now.authentication_ms (C.gives clock.now)
-        connection × Moves connection.noted (moment store.old) (moment store.new) }
+        × IsServedAs (cancel_key seed.now pid) conf.now.authentication_ms
+        (C.gives means.now.clock.now) connection
+        × Moves connection.noted (moment store.old) (moment store.new) }
 {
     let life: Quiet<H> = Quiet::new(pid, store.generation());
     let key = pm_keys::key(seed, pid);
@@ -111,11 +108,10 @@ where
         decision: Cac::Ok,
         key,
     };
-    let means = Means { rt, alloc, clock };
     let Done {
         status,
         link,
         life: _,
-    } = serve(&means, link, life, admission, conf, store);
+    } = serve(means, link, life, admission, conf, store);
     Served { status, link }
 }

@@ -2,7 +2,7 @@
 
 ghost use Rattle.std.specs.Prelude.{◌≡◌, ◌≤◌, ◌+◌, [], IfSome};
 ghost use Rattle.pm_server.specs.Outside.{outside_view};
-ghost use Rattle.pm_once_promises.specs.PromisedOnce.{IsPromisedRun};
+ghost use Rattle.pm_once_promises.specs.PromisedOnce.{IsPromisedOnce};
 
 use pm_disk::Disk;
 use pm_once::{Ended, once};
@@ -32,7 +32,7 @@ where
     B: Chronicle<BookEntry>,
     requires within { conf.now.limits.max_connections + conf.now.limits.max_worker_processes ≤ 200 }
     requires empty { IfSome (J.entries outside.journal) (λ entries. entries ≡ []) }
-    ensures run { IsPromisedRun conf.now result.end (outside_view outside)
+    ensures run { IsPromisedOnce conf.now result.end (outside_view outside)
         (outside_view result.outside) }
     ensures rest { (result.outside.clock ≡ outside.clock) × (result.outside.seed ≡ outside.seed) }
 {

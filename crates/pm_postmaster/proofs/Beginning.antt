@@ -4,11 +4,15 @@ use Rattle.pm_board_acts.specs.{pm_board.{declared.views.{PastChild.PastChild, R
 use Rattle.pm_serve_pool.specs.{pm_serve_crew.Redos.redo_told, pm_store_shared.{declared.views.Noted.Noted, Log.noted}}
 use Rattle.pm_server_lines.{specs.Log.HasSaid, proofs.LogLaws.said_first}
 use Rattle.pm_worker.specs.{pm_outside.Visits.{Visits, no_visits}, pm_query.declared.book.BookEntry.TheVariants.Opened, declared.mail.MailTold.MailTold}
-use Rattle.pm_postmaster.specs.{Served.slots_by, Links.HasLinks, Looking.came_of, Requests.{MayOwe, ended_in}, Serving.{IsServing, KillsAll, Outset, Renews}, View.View}
-use Rattle.pm_supervisor.{specs.{declared.Limits.Limits, Children.one_if}, proofs.CountLaws.at_most_one}
+use Rattle.pm_postmaster.specs.{Served.slots_by, Links.{AcceptedConnection, HasLinks}, Looking.came_of, Requests.{MayOwe, ended_in}, Serving.{IsServing, KillsAll, Outset, Renews, RemembersLast}, View.View, declared.came.LastCame.LastCame}
+use Rattle.pm_supervisor.{specs.{declared.Limits.Limits, Children.{one_if, is_checkpointer, is_startup_child}}, proofs.CountLaws.at_most_one}
 
 abbrev no_slot : SlotView MailTold
 no_slot = slot_view [] Unused
+
+-- nobody was released yet
+abbrev nobody_came : LastCame
+nobody_came = record { startup = None; checkpointer = None }
 
 none_counted : (n : ℕ) → count_of is_connection (children_of (replicate n no_slot)) ≡ 0
 none_counted zero = refl
@@ -31,16 +35,18 @@ module _ (count limit posts : ℕ) where
   new_links = record {
     given = refl;
     out = (let none = none_counted count in omega (arith, none));
-    each = λ i from to. absurd (omega (arith, from, to));
     back = λ k child has. absurd (let one : Contains [] child = subst (λ (xs : List (PastChild MailTold)). Contains xs child) (new_past k) has in let near = one.1 in omega (arith, near));
   }
 
   new_redos : (k : ℕ) → flat_map redo_told (slot_at new_board k).past ≡ []
   new_redos k = ap (λ (xs : List (PastChild MailTold)). flat_map redo_told xs) (new_past k)
 
+  new_came : RemembersLast nobody_came new_board
+  new_came = record { startup = sym (ap (came_of is_startup_child) (new_past 0)); checkpointer = sym (ap (came_of is_checkpointer) (new_past 1)) }
+
 new_renews : (own : List Noted) → own ≡ noted 0 (Opened 1) ∷ [] → Renews [] [] own
 new_renews own is = subst (λ (o : List Noted). Renews [] [] o) (sym is)
-    (record { lost_is = refl; opened = refl; gone = (record { others = []; is = refl; apart = λ pid. omega arith }, tt); fresh = refl })
+    (record { lost_is = refl; opened = refl; gone = (record { others = []; is = refl; apart = λ pid. omega arith }, tt); inside = (tt, tt); fresh = refl })
 
 -- a server that begins as it is now
 abbrev pub outset_of : {D C : Type 0} → Limits → ℕ → View D C → Outset D C
@@ -56,11 +62,11 @@ outset_of limits count v = record {
 
 module _ {D C : Type 0} (gives : C → ℕ → Type 0) where
   begins : (outset : Outset D C) (v : View D C) (limit posts : ℕ) → IsAt outset.limits outset.count [] (view v.work v.board)
-      → v.work.standing ≡ nothing_done outset.limits → v.board ≡ new_roster outset.count limit posts
+      → v.work.standing ≡ nothing_done outset.limits → v.board ≡ new_roster outset.count limit posts → limit ≡ outset.limits.max_connections
       → v.table ≡ outset.table → v.shared ≡ outset.shared → v.clock ≡ outset.clock → v.log ≡ outset.log → outset.log.is_cut ≡ false
       → is_some v.work.told ≡ outset.tells → IfSome v.visits (λ visits. visits ≡ no_visits)
-      → v.shared.generation ≡ 1 → v.shared.own ≡ noted 0 (Opened 1) ∷ [] → v.lost ≡ [] → v.came ≡ None → IfSome v.lines (λ lines. lines ≡ []) → IsServing gives outset v
-  begins outset v limit posts at standing board table shared clock log uncut tells visits generation own lost came lines = record {
+      → v.shared.generation ≡ 1 → v.shared.own ≡ noted 0 (Opened 1) ∷ [] → v.lost ≡ [] → v.came ≡ nobody_came → IfSome v.lines (λ lines. lines ≡ []) → IsServing gives outset v
+  begins outset v limit posts at standing board allowed table shared clock log uncut tells visits generation own lost came lines = record {
     moves = [];
     at = at;
     holds = record {
@@ -73,16 +79,19 @@ module _ {D C : Type 0} (gives : C → ℕ → Type 0) where
         clock = clock;
       };
       slots = ap (λ (d : RosterView MailTold). length d.slots) board ∙ length-replicate outset.count no_slot;
+      limit = ap (λ (d : RosterView MailTold). d.session_limit) board ∙ allowed;
       tells = tells;
       times = tt;
       said = subst (λ l. HasSaid [] outset.log l) (sym log) (said_first outset.log uncut);
       links = by v.visits visits;
+      served = λ n c is. absurd (let no_ : ◌≡◌ {A = Option AcceptedConnection} None (Some c) = is in cc);
     };
     moments = record { last = inl (ap (λ s. s.moment) standing); called = λ kills. absurd (subst (λ s. KillsAll s.due) standing kills) };
     generation = generation ∙ sym (ap (λ s. s.generation) standing);
     renews = subst (λ (l : List ℕ). Renews [] l v.shared.own) (sym lost) (new_renews v.shared.own own);
     redos = λ k. ap (λ (d : RosterView MailTold). flat_map redo_told (slot_at d k).past) board ∙ new_redos outset.count limit posts k;
-    came = came ∙ sym (ap (λ (d : RosterView MailTold). came_of (slot_at d 0).past) board ∙ ap came_of (new_past outset.count limit posts 0));
+    came = subst (λ (c : LastCame). RemembersLast c v.board) (sym came)
+        (subst (λ (d : RosterView MailTold). RemembersLast nobody_came d) (sym board) (new_came outset.count limit posts));
     asks = record {
       read = tt;
       alone = tt;
@@ -108,7 +117,7 @@ module _ {D C : Type 0} (gives : C → ℕ → Type 0) where
       → 1 ≤ limits.max_connections + limits.max_worker_processes → limits.max_connections + limits.max_worker_processes ≤ 200
       → work.standing ≡ nothing_done limits → (told : Option (List PmEvent)) → work.told ≡ told → IfSome told (λ entries. entries ≡ []) → board ≡ new_roster (slots_by limits) limits.max_connections (slots_by limits)
       → v.work ≡ work → v.board ≡ board → ((count : ℕ) → IsUnbegun limits count (view work board) → IsAt limits count [] (view v.work v.board))
-      → v.log.is_cut ≡ false → IfSome v.visits (λ visits. visits ≡ no_visits) → v.shared.generation ≡ 1 → v.shared.own ≡ noted 0 (Opened 1) ∷ [] → v.lost ≡ [] → v.came ≡ None
+      → v.log.is_cut ≡ false → IfSome v.visits (λ visits. visits ≡ no_visits) → v.shared.generation ≡ 1 → v.shared.own ≡ noted 0 (Opened 1) ∷ [] → v.lost ≡ [] → v.came ≡ nobody_came
       → IfSome v.lines (λ lines. lines ≡ []) → IsServing gives (outset_of limits (slots_by limits) v) v
   begun limits v work board some within standing told tells empty new same_work same_board stands uncut visits generation own lost came lines =
       let slots : ℕ = slots_by limits in
@@ -121,5 +130,5 @@ module _ {D C : Type 0} (gives : C → ℕ → Type 0) where
         many = omega (arith, some);
         few = omega (arith, within);
       }) in
-      begins (outset_of limits slots v) v limits.max_connections slots at (ap (λ (w : AtWork). w.standing) same_work ∙ standing) (same_board ∙ new) refl refl refl refl uncut refl
+      begins (outset_of limits slots v) v limits.max_connections slots at (ap (λ (w : AtWork). w.standing) same_work ∙ standing) (same_board ∙ new) refl refl refl refl refl uncut refl
       visits generation own lost came lines

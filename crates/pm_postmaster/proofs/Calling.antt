@@ -55,7 +55,7 @@ module _ {D C : Type 0} (gives : C → ℕ → Type 0) (before now : View D C) (
       → Stops gives NoMemory before now
   stops_as stay asked = λ outset was.
       let at = still gives before mid to_mid (record { visits = refl; lines = refl; listens = refl }) standing told board outset was in
-      stopped_as gives may legal outset NoMemory mid now.visits now.lines now.listens at tt tt (stay _ at.holds.links) (asked at.moves at.asks)
+      stopped_as gives may legal outset NoMemory mid now.visits now.lines now.listens at tt tt (stay.1 _ at.holds.links) stay.0 (asked at.moves at.asks)
 
   -- for a shutdown that is owed, whether links are asked for or not
   pub short_owed : now.visits ≡ before.visits → now.lines ≡ before.lines → Stops gives NoMemory before now

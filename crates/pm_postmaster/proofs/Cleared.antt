@@ -1,17 +1,20 @@
 -- The clearing of a board.
-use Rattle.std.{proofs.{Common.{◌≡◌, ℕ, ◌<◌, List, [], ◌++◌, refl, sym, ap, subst, ◌∙◌, length, get_or, append-nil, append_assoc, arith, nat_eq}, lemmas.List.length-map}, specs.Prelude.{Bool, Option, None, Some, IfSome, option_map}}
+use Rattle.std.{proofs.{Common.{◌≡◌, ℕ, ◌<◌, List, [], ◌++◌, refl, sym, ap, subst, ◌∙◌, length, get_or, append-nil, append_assoc, arith, nat_eq}, lemmas.List.length-map}, specs.Prelude.{Bool, Option, None, Some, IfSome, is_some, option_map}}
 use Rattle.atomic_table.specs.Seated.{TableId}
 use Rattle.pm_server.specs.{pm_facts.Bools.by_test, pm_exit.declared.child.{Kind.Kind, Status.Status}, pm_supervisor_journal.declared.roll.Enrolled.Enrolled, pm_outside.Visits.Visits}
 use Rattle.pm_board_acts.specs.{pm_board.{declared.views.{PastChild.PastChild, RosterView.RosterView, SlotView.SlotView, Sight.TheVariants.Unused}, Children.{CountsChildren, child_in_slot, children_of}, Places.{slot_at, slot_view}}, Board.{enrolled, seats_of}, Final.KeepsEnding, Sitting.{HasFoundNone, StillRuns}, pm_worker.declared.mail.MailTold.MailTold}
-use Rattle.pm_postmaster.{specs.{Clearing.{Clears, MayClear}, Links.HasLinks, Looking.opened, Requests.ended_in}, proofs.{Asked.ended_opened, Linking.links_same, Reaped.{Leaving, links_back, links_still, past_more, slots_found}}}
+use Rattle.pm_postmaster.{specs.{Clearing.{Clears, MayClear}, Links.HasLinks, Looking.opened, Requests.ended_in}, proofs.{Asked.ended_opened, Linking.links_same, Offers.{served_both, served_found, served_same}, Reaped.{Leaving, limit_back, limit_found, links_back, links_still, numbered_back, past_more, served_back, slots_found}}}
 
 -- slots that are the same
-pub clears_same : (t u : TableId) (d e : RosterView MailTold) (visits now : Option Visits) → u ≡ t → KeepsEnding d e → e.slots ≡ d.slots → now ≡ visits → Clears t d visits u e now
-clears_same t u d e visits now table ending slots is = record {
+pub clears_same : (t u : TableId) (d e : RosterView MailTold) (visits now : Option Visits) → u ≡ t → KeepsEnding d e → e.slots ≡ d.slots → e.session_limit ≡ d.session_limit → now ≡ visits → Clears t d visits u e now
+clears_same t u d e visits now table ending slots limit is = record {
   table = table;
   slots = ap length slots;
+  limit = limit;
   ending = ending;
   links = λ n had. subst (λ (v : Option Visits). IfSome v (HasLinks n e)) (sym is) (by n visits had);
+  served = served_same d e slots;
+  numbered = ap is_some is;
   ended = ap ended_in is;
   past = λ k. ([], ap (λ (xs : List (SlotView MailTold)). (get_or xs k (slot_view [] Unused)).past) slots ∙ sym (append-nil (slot_at d k).past));
 }
@@ -26,8 +29,11 @@ pub clears_found : (k : ℕ) (t u : TableId) (d e : RosterView MailTold) (visits
 clears_found k t u d e visits now table ending near found past is = record {
   table = table;
   slots = slots_found k d e found;
+  limit = limit_found k d e found;
   ending = ending;
   links = λ n had. links_still n n k d e visits now near found is refl had;
+  served = served_found k d e found;
+  numbered = ap is_some is;
   ended = ap ended_in is;
   past = λ j. ([], past j ∙ sym (append-nil (slot_at d j).past));
 }
@@ -38,8 +44,11 @@ pub clears_released : CountsChildren → (k : ℕ) (kind : Kind) (status : Statu
 clears_released counts k kind status active back t u d e visits now table ending has is = record {
   table = table;
   slots = has.became.count;
+  limit = limit_back k kind status active back d e has;
   ending = ending;
   links = λ n had. links_back counts n n k kind status active back d e visits now has is refl had;
+  served = served_back k kind status active back d e has;
+  numbered = ap is_some is ∙ numbered_back back visits;
   ended = ap ended_in is ∙ ended_opened back visits;
   past = past_more k kind status active back d e has;
 }
@@ -48,8 +57,11 @@ pub clears_none : (t : TableId) (d : RosterView MailTold) (visits : Option Visit
 clears_none t d visits = record {
   table = refl;
   slots = refl;
+  limit = refl;
   ending = record { ending = λ count moves was. was; last_pid = refl };
   links = λ n had. had;
+  served = λ numbered connections was. was;
+  numbered = refl;
   ended = refl;
   past = λ k. ([], sym (append-nil (slot_at d k).past));
 }
@@ -58,11 +70,14 @@ pub clears_both : (t u w : TableId) (d e f : RosterView MailTold) (a b c : Optio
 clears_both t u w d e f a b c one two = record {
   table = two.table ∙ one.table;
   slots = two.slots ∙ one.slots;
+  limit = two.limit ∙ one.limit;
   ending = record {
     ending = λ count moves was. two.ending.ending count moves (one.ending.ending count moves was);
     last_pid = two.ending.last_pid ∙ one.ending.last_pid;
   };
   links = λ n had. two.links n (one.links n had);
+  served = served_both d e f one.served two.served;
+  numbered = two.numbered ∙ one.numbered;
   ended = two.ended ∙ one.ended;
   past = λ k. (let p = one.past k in let q = two.past k in
       (p.0 ++ q.0, q.1 ∙ (ap (λ (xs : List (PastChild MailTold)). xs ++ q.0) p.1 ∙ append_assoc (slot_at d k).past p.0 q.0)));

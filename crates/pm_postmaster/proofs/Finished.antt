@@ -1,12 +1,12 @@
 -- What a run leaves, by its parts.
-use Rattle.std.{proofs.{Common.{◌≡◌, ◌⊎◌, inl, inr, ℕ, ◌<◌, ◌≤◌, List, [], ◌∷◌, ◌++◌, refl, sym, ap, subst, ◌∙◌, length, map, arith, append-nil, append_assoc}, lemmas.List.get_or_past}, specs.Prelude.{true, false, Option, None, Some, IfSome, is_some, nat_lt}}
-use Rattle.pm_server.specs.{pm_facts.Bools.by_test, pm_outside.{Added.Added, Visits.Visits}, pm_query.declared.book.BookEntry.{BookEntry, TheVariants.Opened}, pm_record.OnDisk.GoesOn, pm_segment.{Moment.moment, MovesLaws.time_still, Unread.has_break}, pm_supervisor_journal.Stands.{any_moment, highest_pid}, declared.end.{ServerEnd.{ServerEnd, TheVariants.{Clean, Abnormal, NoThread, NoMemory}}, Why.TheVariants.{AfterCrash, StartupFailed, RestartOff, GenerationsSpent}}, pm_state.{Journal.IsLegal, declared.event.PmEvent.PmEvent}, pm_supervisor.declared.Limits.Limits}
+use Rattle.std.{proofs.{Common.{◌≡◌, ◌⊎◌, inl, inr, ℕ, ◌<◌, ◌≤◌, List, [], ◌∷◌, ◌++◌, refl, sym, ap, subst, ◌∙◌, length, map, arith, append-nil, append_assoc}, lemmas.List.get_or_past}, specs.Prelude.{Bool, true, false, Option, None, Some, IfSome, is_some, nat_lt}}
+use Rattle.pm_server.specs.{pm_facts.Bools.by_test, pm_exit.declared.child.Kind.Kind, pm_outside.{Added.Added, Visits.Visits}, pm_query.declared.book.BookEntry.{BookEntry, TheVariants.Opened}, pm_record.OnDisk.GoesOn, pm_segment.{Moment.moment, MovesLaws.time_still, Unread.has_break}, pm_supervisor_journal.Stands.{any_moment, highest_pid}, declared.end.{ServerEnd.{ServerEnd, TheVariants.{Clean, Abnormal, NoThread, NoMemory}}, Why.TheVariants.{AfterCrash, StartupFailed, RestartOff, GenerationsSpent}}, pm_state.{Journal.IsLegal, declared.event.PmEvent.PmEvent}, pm_supervisor.{declared.Limits.Limits, Children.{is_checkpointer, is_startup_child}}}
 use Rattle.pm_server.specs.pm_disk.declared.disk.Disk as Disk
 use Rattle.pm_server.specs.pm_outside.declared.chronicle.Chronicle as Chronicle
 use Rattle.pm_serve_pool.{specs.{Given.{IsGivenBack, IsOpenedAlone}, pm_serve_crew.{Left.{AreLeft, Manner}, Pids.AreUsedOnce}, Closing.HasHadLast, pm_store_shared.declared.views.Noted.Noted}, proofs.pm_serve_crew.PidsLaws.{drawn_by, used_once}}
 use Rattle.pm_server_lines.{specs.Log.{HasLogged, HasPrinted, LogView}, proofs.LogLaws.{logged_by, printed_more}}
 use Rattle.pm_board_acts.specs.{pm_board.{declared.views.{PastChild.PastChild, RosterView.RosterView, Sight.TheVariants.Unused, SlotView.SlotView}, Places.{slot_at, slot_view}}, Chained.{LinksCameBack, pids_accepted}, Final.{EndsWithNobody, IsEndingAt, NobodySits}, Seating.{Move, journal_of}, pm_worker.declared.mail.MailTold.MailTold}
-use Rattle.pm_postmaster.{specs.{Links.{AreBackIn, HasLinks}, Requests.IsAsked, Serving.{IsCausedBehind, last_pid_in}, Served.IsEnded}, proofs.{Closing.still_once, Home.{back_home, links_home}}}
+use Rattle.pm_postmaster.{specs.{Links.{AreBackIn, AreServed, HasLinks, accepted_in}, Requests.IsAsked, Serving.{IsCausedBehind, last_pid_in, HasComeOut}, Served.IsEnded, declared.came.Came.Came}, proofs.{Closing.still_once, Home.{back_home, links_home}}}
 
 -- these entries were added to a new journal
 pub adds_new : (journal : List PmEvent) (before now : Option (List PmEvent)) → IfSome before (λ entries. entries ≡ []) → is_some now ≡ is_some before
@@ -58,23 +58,35 @@ given_back g h first disk given book (inl same) =
     (inl same.1, ap g.seen same.0, subst (λ (d : _). GoesOn (g.ticks first) (g.ticks d) (g.images first) (g.images d)) (sym same.0) (time_still (g.ticks first) (g.images first)))
 given_back g h first disk given book (inr alone) = let it = opened_alone g h first disk book alone in (inr it.0, it.1, it.2)
 
--- a cause stays one after children that were released later
-pub caused_more : (end : ServerEnd) (moves : List Move) (past more now : List (PastChild MailTold)) → now ≡ past ++ more → IsCausedBehind end moves past → IsCausedBehind end moves now
-caused_more (Abnormal (StartupFailed reason)) moves past more now is cause = record {
-  front = cause.front;
-  others = cause.others ++ more;
-  past_is = is ∙ (ap (λ (l : List (PastChild MailTold)). l ++ more) cause.past_is ∙ append_assoc cause.front cause.others more);
-  told = cause.told;
+-- how the last child came out stays so after children that were released later
+out_more : (is_it : Kind → Bool) (k : ℕ) (moves : List Move) (came : Option Came) (past more now : List (PastChild MailTold)) → now ≡ past ++ more → HasComeOut is_it past k moves came
+    → HasComeOut is_it now k moves came
+out_more is_it k moves came past more now is out = record {
+  front = out.front;
+  others = out.others ++ more;
+  past_is = is ∙ (ap (λ (l : List (PastChild MailTold)). l ++ more) out.past_is ∙ append_assoc out.front out.others more);
+  told = out.told;
+  came_is = out.came_is;
+}
+
+-- and a cause stays one
+pub caused_more : (end : ServerEnd) (moves : List Move) (d e : RosterView MailTold) → ((k : ℕ) → (others : List (PastChild MailTold)) × ((slot_at e k).past ≡ (slot_at d k).past ++ others))
+    → IsCausedBehind end moves d → IsCausedBehind end moves e
+caused_more (Abnormal (StartupFailed reason)) moves d e more cause = record {
   came = cause.came;
-  came_is = cause.came_is;
+  out = out_more is_startup_child 0 moves (Some cause.came) (slot_at d 0).past (more 0).0 (slot_at e 0).past (more 0).1 cause.out;
   reason_is = cause.reason_is;
 }
-caused_more (Abnormal AfterCrash) moves past more now is cause = tt
-caused_more (Abnormal RestartOff) moves past more now is cause = tt
-caused_more (Abnormal GenerationsSpent) moves past more now is cause = tt
-caused_more Clean moves past more now is cause = tt
-caused_more NoThread moves past more now is cause = tt
-caused_more NoMemory moves past more now is cause = tt
+caused_more (Abnormal AfterCrash) moves d e more cause = record {
+  came = cause.came;
+  out = out_more is_checkpointer 1 moves cause.came (slot_at d 1).past (more 1).0 (slot_at e 1).past (more 1).1 cause.out;
+  other = cause.other;
+}
+caused_more (Abnormal RestartOff) moves d e more cause = tt
+caused_more (Abnormal GenerationsSpent) moves d e more cause = tt
+caused_more Clean moves d e more cause = tt
+caused_more NoThread moves d e more cause = tt
+caused_more NoMemory moves d e more cause = tt
 
 -- what was asked of a server stays so while its children are cleared
 pub asked_behind : (end : ServerEnd) (moves : List Move) (lines : Option (List (List ℕ))) (before now : Option (Option ℕ)) (last_pid : ℕ) → now ≡ before → IsAsked end moves lines before last_pid
@@ -108,9 +120,9 @@ module _ (limits : Limits) (count : ℕ) (moves : List Move) (board after : Rost
 pub home_if : (manner : Manner) (count : ℕ) (before after : RosterView MailTold) (own : List Noted) (book : List BookEntry) → AreLeft manner count after own book
     → ((k : ℕ) → (slot_at before k).sight ≡ Unused) → ((k : ℕ) → k < count → (others : List (PastChild MailTold)) × ((slot_at after k).past ≡ (slot_at before k).past ++ others))
     → ((k : ℕ) → count ≤ k → (slot_at before k).past ≡ []) → (journal : List PmEvent) (visits : Option Visits)
-    → IfSome visits (HasLinks (length (pids_accepted journal)) before) → IfSome visits (LinksCameBack journal)
-home_if manner count before after own book left free more wide journal None was = tt
-home_if manner count before after own book left free more wide journal (Some visits) was = links_home manner count before after own book left free more wide journal visits was
+    → IfSome visits (HasLinks (length (pids_accepted journal)) before) → AreServed (is_some visits) (accepted_in journal) before → IfSome visits (LinksCameBack journal)
+home_if manner count before after own book left free more wide journal None was served = tt
+home_if manner count before after own book left free more wide journal (Some visits) was served = links_home manner count before after own book left free more wide journal visits was served
 
 -- and what came back to it
 pub back_if : (manner : Manner) (count : ℕ) (before after : RosterView MailTold) (own : List Noted) (book : List BookEntry) → AreLeft manner count after own book

@@ -1,9 +1,9 @@
 -- A server goes on, and ends.
-use Rattle.std.{proofs.Common.{◌≡◌, ℕ, ◌≤◌, List, ◌++◌, sym, ap, subst, ◌∙◌, length}, specs.Prelude.{Bool, true, Option, Some, IfSome, Result, Ok, Err, is_some}}
-use Rattle.pm_server.{specs.{pm_supervisor_journal.{Laws.KeepsALegalJournal, Moments.AreGiven, Standing.Standing, Stands.{Stands, highest_pid}}, pm_supervisor.{declared.Limits.Limits, Steps.Trace}, pm_server_lines.Log.HasSaid, declared.end.ServerEnd.ServerEnd, pm_state.declared.event.PmEvent.PmEvent, pm_outside.Visits.Visits}, proofs.JournalLaws.all_given}
-use Rattle.pm_board_acts.specs.{Chained.pids_accepted, Final.MayEndAnywhere, Seating.{Move, journal_of}, Sitting.KeepsPast, pm_board.Places.slot_at, Standing.{IsAt, IsRunning, view}, pm_worker.declared.mail.MailTold.MailTold}
+use Rattle.std.{proofs.Common.{◌≡◌, ℕ, ◌≤◌, List, ◌++◌, refl, sym, ap, subst, ◌∙◌, length}, specs.Prelude.{Bool, true, Option, Some, IfSome, Result, Ok, Err, is_some}}
+use Rattle.pm_server.{specs.{pm_supervisor_journal.{Laws.KeepsALegalJournal, Moments.AreGiven, Standing.Standing, Stands.{Stands, highest_pid}}, pm_supervisor.{declared.Limits.Limits, Steps.Trace, Children.{is_checkpointer, is_startup_child}}, pm_server_lines.Log.HasSaid, declared.end.ServerEnd.ServerEnd, pm_state.declared.event.PmEvent.PmEvent, pm_outside.Visits.Visits}, proofs.JournalLaws.all_given}
+use Rattle.pm_board_acts.specs.{Chained.pids_accepted, Final.MayEndAnywhere, Seating.{Move, journal_of}, Sitting.KeepsPast, Standing.{IsAt, IsRunning, view}, pm_worker.declared.mail.MailTold.MailTold}
 use Rattle.pm_store_shared.specs.declared.views.Noted.{Noted}
-use Rattle.pm_postmaster.{specs.{Links.HasLinks, Serving.{Goes, HasStopped, Holds, IsAlive, IsCausedBehind, IsEndBehind, IsServing, Keeps, Moments, Outset, Renews, StaysWith, Stops, last_pid_in}, Looking.came_of, Requests.{AsksSoFar, IsAsked, ended_in, ended_short}, View.View}, proofs.{Asked.{AsksNone, OwesOn, asked_all, asks_none}, Redoing.{TellNone, redos_still, redos_told}, Renewing.{AreQuiet, renews_as_told, renews_quiet}}}
+use Rattle.pm_postmaster.{specs.{Links.{AreServed, HasLinks, accepted_in}, Serving.{Goes, HasStopped, Holds, IsAlive, IsCausedBehind, IsEndBehind, IsServing, Keeps, Moments, Outset, Renews, StaysWith, Stops, last_pid_in, RemembersLast}, Looking.came_of, Requests.{AsksSoFar, IsAsked, ended_in, ended_short}, View.View, declared.came.LastCame.LastCame}, proofs.{Asked.{AsksNone, OwesOn, asked_all, asks_none}, Redoing.{TellNone, redos_still, redos_told}, Renewing.{AreQuiet, renews_as_told, renews_quiet}}}
 
 -- the last pid of a journal is that of the standing after it
 pub pid_at : (limits : Limits) (journal : List PmEvent) (s : Standing) (h : Trace) → Stands limits (Some journal) s h → s.last_pid ≡ last_pid_in limits journal
@@ -29,7 +29,7 @@ module _ {D C : Type 0} (gives : C → ℕ → Type 0) where
     pub clock : now.clock ≡ before.clock
     pub tells : is_some now.work.told ≡ is_some before.work.told
 
-  -- what most things leave of the store's side, and of startup children
+  -- what most things leave of the store's side, and of the children that were released
   pub record LeavesStore (before now : View D C) : Type 0 where
     pub lost : now.lost ≡ before.lost
     pub own : now.shared.own ≡ before.shared.own
@@ -71,8 +71,11 @@ module _ {D C : Type 0} (gives : C → ℕ → Type 0) where
       subst (λ (l : List ℕ). Renews (journal ++ entries) l now.shared.own) (sym leaves.lost)
       (subst (λ (own : List Noted). Renews (journal ++ entries) before.lost own) (sym leaves.own) (renews_quiet journal before.lost before.shared.own entries quiet was))
 
-  pub came_on : (before now : View D C) → LeavesStore before now → before.came ≡ came_of (slot_at before.board 0).past → now.came ≡ came_of (slot_at now.board 0).past
-  came_on before now leaves was = leaves.came ∙ (was ∙ ap came_of (sym (leaves.past 0)))
+  pub came_on : (before now : View D C) → now.came ≡ before.came → KeepsPast before.board now.board → RemembersLast before.came before.board → RemembersLast now.came now.board
+  came_on before now came past was = record {
+    startup = ap (λ (c : LastCame). c.startup) came ∙ (was.startup ∙ ap (came_of is_startup_child) (sym (past 0)));
+    checkpointer = ap (λ (c : LastCame). c.checkpointer) came ∙ (was.checkpointer ∙ ap (came_of is_checkpointer) (sym (past 1)));
+  }
 
   stays_on : (outset : Outset D C) (before now : View D C) → Leaves before now → StaysWith outset before → StaysWith outset now
   stays_on outset before now leaves was = record {
@@ -91,18 +94,25 @@ module _ {D C : Type 0} (gives : C → ℕ → Type 0) where
     pub said : HasSaid (journal_of outset.count earlier) outset.log before.log → HasSaid (journal_of outset.count earlier ++ entries) outset.log now.log
     pub links : IfSome before.visits (HasLinks (count_in (journal_of outset.count earlier)) before.board)
         → IfSome now.visits (HasLinks (count_in (journal_of outset.count earlier ++ entries)) now.board)
+    pub numbered : is_some now.visits ≡ is_some before.visits
+    pub served : AreServed (is_some before.visits) (accepted_in (journal_of outset.count earlier)) before.board
+        → AreServed (is_some before.visits) (accepted_in (journal_of outset.count earlier ++ entries)) now.board
     pub leaves : Leaves before now
     pub slots : length now.board.slots ≡ length before.board.slots
+    pub limit : now.board.session_limit ≡ before.board.session_limit
 
   pub holds_on : (outset : Outset D C) (earlier more : List Move) (entries : List PmEvent) (before now : View D C) → GoesBy outset earlier more entries before now
       → Holds gives outset earlier before → Holds gives outset (earlier ++ more) now
   holds_on outset earlier more entries before now by was = record {
     stays = stays_on outset before now by.leaves was.stays;
     slots = by.slots ∙ was.slots;
+    limit = by.limit ∙ was.limit;
     tells = by.leaves.tells ∙ was.tells;
     times = subst (AreGiven (gives outset.clock)) (sym by.journal) (all_given (gives outset.clock) (journal_of outset.count earlier) entries was.times by.given);
     said = subst (λ (es : List PmEvent). HasSaid es outset.log now.log) (sym by.journal) (by.said was.said);
     links = subst (λ (es : List PmEvent). IfSome now.visits (HasLinks (count_in es) now.board)) (sym by.journal) (by.links was.links);
+    served = subst (λ (b : Bool). AreServed b (accepted_in (journal_of outset.count (earlier ++ more))) now.board) (sym by.numbered)
+        (subst (λ (es : List PmEvent). AreServed (is_some before.visits) (accepted_in es) now.board) (sym by.journal) (by.served was.served));
   }
 
   -- it goes on serving
@@ -117,16 +127,16 @@ module _ {D C : Type 0} (gives : C → ℕ → Type 0) where
     generation = generation;
     renews = subst (λ (es : List PmEvent). Renews es now.lost now.shared.own) (sym by.journal) (renews_on (journal_of outset.count was.moves) entries before now quiet leaves was.renews);
     redos = redos_still was.moves more before.board now.board none leaves.past was.redos;
-    came = came_on before now leaves was.came;
+    came = came_on before now leaves.came leaves.past was.came;
     asks = asks was;
   }
 
   -- A server at any moment may end, where its end is right, and where this was asked of it.
   pub stopped_as : MayEndAnywhere MailTold → KeepsALegalJournal → (outset : Outset D C) (end : ServerEnd) (v : View D C) (visits : Option Visits) (lines : Option (List (List ℕ))) (listens : Bool)
-      → (was : IsServing gives outset v) → IsEndBehind outset.limits end (journal_of outset.count was.moves) → IsCausedBehind end was.moves (slot_at v.board 0).past
-      → IfSome visits (HasLinks (count_in (journal_of outset.count was.moves)) v.board) → IsAsked end was.moves lines (ended_in visits) v.work.standing.last_pid
+      → (was : IsServing gives outset v) → IsEndBehind outset.limits end (journal_of outset.count was.moves) → IsCausedBehind end was.moves v.board
+      → IfSome visits (HasLinks (count_in (journal_of outset.count was.moves)) v.board) → is_some visits ≡ is_some v.visits → IsAsked end was.moves lines (ended_in visits) v.work.standing.last_pid
       → HasStopped gives outset end (record v { visits = visits; lines = lines; listens = listens })
-  stopped_as may legal outset end v visits lines listens was by cause links asked =
+  stopped_as may legal outset end v visits lines listens was by cause links numbered asked =
       let ends = may.at outset.limits outset.count was.moves v.work v.board was.at in
       let stays = was.holds.stays in
       record {
@@ -139,24 +149,27 @@ module _ {D C : Type 0} (gives : C → ℕ → Type 0) where
         holds = record {
           stays = record { table = stays.table; home = stays.home; tokens = stays.tokens; joined = stays.joined; disk = stays.disk; clock = stays.clock };
           slots = was.holds.slots;
+          limit = was.holds.limit;
           tells = was.holds.tells;
           times = was.holds.times;
           said = was.holds.said;
           links = links;
+          served = subst (λ (b : Bool). AreServed b (accepted_in (journal_of outset.count was.moves)) v.board) (sym numbered) was.holds.served;
         };
         ends = by;
         cause = cause;
         asked = subst (λ (n : ℕ). IsAsked end was.moves lines (ended_in visits) n) (pid_at outset.limits (journal_of outset.count was.moves) v.work.standing was.at.past was.at.stands) asked;
         renews = renews_as_told (journal_of outset.count was.moves) v.lost v.shared.own was.renews;
+        opened = λ enough. was.renews.opened;
         redos = redos_told was.moves v.board was.at.seated.had.ended was.redos;
       }
 
   -- the same where all was asked for that was to be, but for a smart shutdown that is owed where memory is short
   pub stopped_at : MayEndAnywhere MailTold → KeepsALegalJournal → (outset : Outset D C) (end : ServerEnd) (v : View D C) (was : IsServing gives outset v)
-      → IsEndBehind outset.limits end (journal_of outset.count was.moves) → IsCausedBehind end was.moves (slot_at v.board 0).past
+      → IsEndBehind outset.limits end (journal_of outset.count was.moves) → IsCausedBehind end was.moves v.board
       → (v.work.standing.owes_smart ≡ true → ended_short end ≡ true) → HasStopped gives outset end v
   stopped_at may legal outset end v was by cause short =
-      stopped_as may legal outset end v v.visits v.lines v.listens was by cause was.holds.links
+      stopped_as may legal outset end v v.visits v.lines v.listens was by cause was.holds.links refl
       (asked_all end was.moves v.lines (ended_in v.visits) v.listens v.work.standing was.asks short)
 
   pub goes_on : {T : Type 0} (result : Result T ServerEnd) (a b c : View D C) → Keeps gives a b → Goes gives result b c → Goes gives result a c

@@ -1,10 +1,10 @@
 -- Each link came back once.
-use Rattle.std.{proofs.{Common.{◌≡◌, ◌≢◌, ◌⊎◌, inl, inr, ℕ, zero, suc, ◌+◌, ◌<◌, ◌≤◌, List, [], ◌∷◌, ◌++◌, refl, sym, ap, subst, ◌∙◌, length, map, arith, get_or}, lemmas.{List.{length-map, Elements.{Contains-append_left, Contains-push, Contains-push_cases}}, Option.slice_get-get_or}}, specs.{Prelude.{Bool, true, false, ◌==◌, if◌then◌else◌, None, nat_lt}, List.{AllByRecursion, Contains}}}
-use Rattle.pm_server.specs.{pm_facts.Bools.by_test, pm_outside.Visits.{Visit, Visits}, pm_query.declared.book.BookEntry.BookEntry, pm_state.{declared.event.PmEvent.PmEvent, Restarts.without_pid}}
+use Rattle.std.{proofs.{Common.{◌≡◌, ◌≢◌, ◌⊎◌, inl, inr, ℕ, zero, suc, ◌+◌, ◌-◌, ◌<◌, ◌≤◌, List, [], ◌∷◌, ◌++◌, refl, sym, ap, subst, ◌∙◌, length, map, arith, get_or}, lemmas.{List.{length-map, Elements.{Contains-append_left, Contains-push, Contains-push_cases}}, Option.slice_get-get_or}}, specs.{Prelude.{Bool, true, false, ◌==◌, if◌then◌else◌, None, nat_lt}, List.{AllByRecursion, Contains}}}
+use Rattle.pm_server.specs.{pm_admit.declared.Cac.Cac, pm_facts.Bools.by_test, pm_outside.Visits.{Visit, Visits}, pm_query.declared.book.BookEntry.BookEntry, pm_state.{declared.event.PmEvent.PmEvent, Restarts.without_pid}}
 use Rattle.pm_board_acts.specs.{pm_board.{declared.views.{PastChild.PastChild, RosterView.RosterView, Sight.TheVariants.{Assigned, Unused}}, Places.slot_at}, pm_supervisor_chain.Chain.IsPidOf, Chained.{LinksCameBack, pids_accepted}, pm_worker.{declared.mail.MailTold.MailTold, Runs.{Does, IsRun, Run}}}
 use Rattle.pm_serve_pool.specs.{pm_serve_crew.Left.{AreLeft, Manner}, Closing.HasHadLast, pm_store_shared.declared.views.Noted.Noted}
 use Rattle.pm_board_acts.specs.pm_worker.declared.mail.MailTold.TheVariants as mail
-use Rattle.pm_postmaster.specs.Links.{AreBackIn, BackIn, GivesLink, HasLink, HasLinks, IsBackIn}
+use Rattle.pm_postmaster.{specs.Links.{AcceptedConnection, AreBackIn, AreServed, BackIn, HasLinks, HasOffer, IsBackIn, IsOffered, Serves, accepted_in}, proofs.Offers.{as_many_accepted, got_some}}
 
 -- ---- as many as there are
 
@@ -45,16 +45,16 @@ in_numbers (x ∷ xs) (suc k) visit near is = inr (in_numbers xs k visit (omega 
 -- ---- the runs
 
 -- a run that was given a link gives it back
-gives_back : (gives : ℕ → Type 0) (seed : List ℕ) (limit n : ℕ) (given : MailTold) (run : Run) (visits : Visits) → Does None seed limit gives given run → GivesLink n given
+gives_back : (gives : ℕ → Type 0) (seed : List ℕ) (limit n : ℕ) (decided : Cac) (given : MailTold) (run : Run) (visits : Visits) → Does None seed limit gives given run → Serves true n decided given
     → BackIn visits.back run.child.back → (visit : Visit) × Contains visits.back visit × (visit.number ≡ n)
-gives_back gives seed limit n (mail.Serve link decision) run visits does number back =
-    let home = subst (λ (m : MailTold). BackIn visits.back m) does.back_is back in (home.0, home.1, home.2 ∙ (does.number ∙ number))
-gives_back gives seed limit n mail.Startup run visits does number back = absurd number
-gives_back gives seed limit n mail.Checkpointer run visits does number back = absurd number
-gives_back gives seed limit n mail.Writer run visits does number back = absurd number
-gives_back gives seed limit n mail.Close run visits does number back = absurd number
-gives_back gives seed limit n (mail.Served link) run visits does number back = absurd number
-gives_back gives seed limit n (mail.Aux fault fate) run visits does number back = absurd number
+gives_back gives seed limit n decided (mail.Serve link decision) run visits does serves back =
+    let home = subst (λ (m : MailTold). BackIn visits.back m) does.back_is back in (home.0, home.1, home.2 ∙ (does.number ∙ serves.1 refl))
+gives_back gives seed limit n decided mail.Startup run visits does serves back = absurd serves
+gives_back gives seed limit n decided mail.Checkpointer run visits does serves back = absurd serves
+gives_back gives seed limit n decided mail.Writer run visits does serves back = absurd serves
+gives_back gives seed limit n decided mail.Close run visits does serves back = absurd serves
+gives_back gives seed limit n decided (mail.Served link) run visits does serves back = absurd serves
+gives_back gives seed limit n decided (mail.Aux fault fate) run visits does serves back = absurd serves
 
 -- the run of a child
 run_of : (P : Run → Type 0) (runs : List Run) (k : ℕ) (child : PastChild MailTold) → AllByRecursion P runs → k < length (map (λ run. run.child) runs)
@@ -66,9 +66,10 @@ run_of P (x ∷ runs) (suc k) child each near is = run_of P runs k child each.1 
 module _ (manner : Manner) (count : ℕ) (before after : RosterView MailTold) (own : List Noted) (book : List BookEntry) (left : AreLeft manner count after own book)
     (free : (k : ℕ) → (slot_at before k).sight ≡ Unused) (more : (k : ℕ) → k < count → (others : List (PastChild MailTold)) × ((slot_at after k).past ≡ (slot_at before k).past ++ others))
     (wide : (k : ℕ) → count ≤ k → (slot_at before k).past ≡ []) where
-  home_at : (n k : ℕ) (visits : Visits) (child : PastChild MailTold) → Contains (slot_at before k).past child → GivesLink n child.offer.given → BackIn visits.back child.back
+  home_at : (n k : ℕ) (decided : Cac) (visits : Visits) (child : PastChild MailTold) → Contains (slot_at before k).past child → Serves true n decided child.offer.given
+      → BackIn visits.back child.back
       → (visit : Visit) × Contains visits.back visit × (visit.number ≡ n)
-  home_at n k visits child has number back = by_test (nat_lt k count) inside outside
+  home_at n k decided visits child has serves back = by_test (nat_lt k count) inside outside
     where
       inside : nat_lt k count ≡ true → (visit : Visit) × Contains visits.back visit × (visit.number ≡ n)
       inside is =
@@ -78,24 +79,29 @@ module _ (manner : Manner) (count : ℕ) (before after : RosterView MailTold) (o
           subst (λ (xs : List (PastChild MailTold)). Contains xs child) ((sym (more k less).1) ∙ worked.children)
           (Contains-append_left (slot_at before k).past (more k less).0 child has) in
           let run = run_of (IsRun None manner.seed manner.limit manner.gives) (left.runs k) there.0 child worked.each there.1 there.2 in
-          gives_back manner.gives manner.seed manner.limit n run.0.child.offer.given run.0 visits run.1.does
-          (subst (λ (c : PastChild MailTold). GivesLink n c.offer.given) (sym run.2) number) (subst (λ (c : PastChild MailTold). BackIn visits.back c.back) (sym run.2) back)
+          gives_back manner.gives manner.seed manner.limit n decided run.0.child.offer.given run.0 visits run.1.does
+          (subst (λ (c : PastChild MailTold). Serves true n decided c.offer.given) (sym run.2) serves) (subst (λ (c : PastChild MailTold). BackIn visits.back c.back) (sym run.2) back)
 
       outside : nat_lt k count ≡ false → (visit : Visit) × Contains visits.back visit × (visit.number ≡ n)
       outside isnt =
           let none : Contains [] child = subst (λ (xs : List (PastChild MailTold)). Contains xs child) (wide k (grind (arith, isnt))) has in
           absurd (let near = none.1 in omega (arith, near))
 
-  came_back : (n : ℕ) (visits : Visits) → HasLinks n before visits → (i : ℕ) → 1 ≤ i → i ≤ n → (visit : Visit) × Contains visits.back visit × (visit.number ≡ i)
-  came_back n visits was i from to = by (was.each i from to)
+  came_back : (connections : List AcceptedConnection) (visits : Visits) → AreBackIn before visits → AreServed true connections before → (n : ℕ) → n < length connections
+      → (visit : Visit) × Contains visits.back visit × (visit.number ≡ n + 1)
+  came_back connections visits back served n less = let has = got_some connections n less in by has.0 (served n has.0 has.1)
     where
-      by : (k : ℕ) × HasLink i (slot_at before k) → (visit : Visit) × Contains visits.back visit × (visit.number ≡ i)
-      by (k, inl sits) = absurd (let both : Unused ≡ Assigned sits.0 = sym (free k) ∙ sits.1 in cc)
-      by (k, inr gone) = home_at i k visits gone.0 gone.1 gone.2 (was.back k gone.0 gone.1)
+      by : (c : AcceptedConnection) → (k : ℕ) × HasOffer (IsOffered true (n + 1) c) (slot_at before k) → (visit : Visit) × Contains visits.back visit × (visit.number ≡ n + 1)
+      by c (k, inl sits) = absurd (let both : Unused ≡ Assigned sits.0 = sym (free k) ∙ sits.1 in cc)
+      by c (k, inr (child, there, (pid, serves))) = home_at (n + 1) k c.decision visits child there serves (back k child there)
 
-  pub links_home : (journal : List PmEvent) (visits : Visits) → HasLinks (length (pids_accepted journal)) before visits → LinksCameBack journal visits
-  links_home journal visits was =
-      let each = came_back (length (pids_accepted journal)) visits was in
+  pub links_home : (journal : List PmEvent) (visits : Visits) → HasLinks (length (pids_accepted journal)) before visits → AreServed true (accepted_in journal) before
+      → LinksCameBack journal visits
+  links_home journal visits was served =
+      let many = as_many_accepted journal in
+      let each : (i : ℕ) → 1 ≤ i → i ≤ length (pids_accepted journal) → (visit : Visit) × Contains visits.back visit × (visit.number ≡ i) =
+      (λ i from to. (let home = came_back (accepted_in journal) visits was.back served (i - 1) (omega (arith, many, from, to)) in
+      (home.0, home.1, home.2 ∙ (let same : (i - 1) + 1 ≡ i = omega (arith, from) in same)))) in
       let long = as_many (length (pids_accepted journal)) (map (λ v. v.number) visits.back)
       (λ i from to. (let home = each i from to in subst (λ (m : ℕ). IsPidOf m (map (λ v. v.number) visits.back)) home.2 (in_numbers visits.back home.1.0 home.0 home.1.1 home.1.2))) in
       let same = length-map visits.back (λ (v : Visit). v.number) in

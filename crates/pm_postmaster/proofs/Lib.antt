@@ -1,6 +1,7 @@
 pub mod Owed
 pub mod Asked
 pub mod Linking
+pub mod Offers
 pub mod Moments
 pub mod Renewing
 pub mod Redoing

@@ -1,10 +1,10 @@
 -- What the steps of a supervisor leave of the links that are out.
-use Rattle.std.{proofs.{Common.{◌≡◌, ◌⊎◌, inl, inr, ℕ, ◌+◌, ◌<◌, ◌≤◌, List, [], ◌∷◌, refl, sym, ap, subst, ◌∙◌, length, set, get_or, arith, nat_eq}, lemmas.List.{get_or-map, length-map, length_push, map-set, set-get_or, Elements.{Contains-append_left, Contains-push, Contains-push_cases}}}, specs.{Prelude.{Bool, false, Option, None, nat_le}, List.Contains}}
+use Rattle.std.{proofs.{Common.{◌≡◌, ◌⊎◌, inl, inr, ℕ, ◌+◌, ◌<◌, ◌≤◌, List, [], ◌∷◌, refl, sym, ap, subst, ◌∙◌, length, set, get_or, arith, nat_eq}, lemmas.List.{get_or-map, length-map, length_push, map-set, set-get_or, Elements.{Contains-append_left, Contains-push, Contains-push_cases}}}, specs.{Prelude.{Bool, false, Option, None}, List.Contains}}
 use Rattle.pm_server.specs.{pm_facts.Bools.by_test, pm_exit.declared.child.{Kind.Kind, Status.Status}, pm_outside.Visits.{Visit, Visits}}
-use Rattle.pm_board.{specs.{declared.views.{Offer.Offer, PastChild.PastChild, RosterNotes.RosterNotes, RosterStep.RosterStep, RosterView.RosterView, Sight.TheVariants.{Assigned, Unused}, SlotView.SlotView}, Children.{CountsChildren, child_in_slot, child_seen, children_of, count_of}, Models.{HasAssigned, SlotBecame}, Places.{is_connection, slot_at, slot_view}, Told.{after_step, assigned_slot, past_child, released_slot, running_slot}, Words.bit}, proofs.BoardLaws.bit_small}
+use Rattle.pm_board.{specs.{declared.views.{Offer.Offer, PastChild.PastChild, RosterNotes.RosterNotes, RosterStep.RosterStep, RosterView.RosterView, Sight.TheVariants.{Assigned, Unused}, SlotView.SlotView}, Children.{CountsChildren, child_in_slot, child_seen, children_of, count_of}, Models.{HasAssigned, SlotBecame}, Places.{is_connection, slot_at, slot_view}, Told.{after_step, past_child, released_slot, running_slot}, Words.bit}, proofs.BoardLaws.bit_small}
 use Rattle.pm_board_acts.specs.{Board.after_steps, pm_worker.{declared.mail.{LinkTold.LinkTold, MailTold.MailTold}, Mails.ComesBack}}
 use Rattle.pm_board_acts.specs.pm_worker.declared.mail.MailTold.TheVariants as mail
-use Rattle.pm_postmaster.specs.{Links.{BackIn, GivesLink, HasLink, HasLinks, IsBackIn}, Looking.opened}
+use Rattle.pm_postmaster.specs.{Links.{BackIn, HasLinks, IsBackIn}, Looking.opened}
 
 abbrev Slots : Type 0
 Slots = List (SlotView MailTold)
@@ -14,6 +14,10 @@ pub same_slots : (d : RosterView MailTold) (ss : List RosterStep) → (after_ste
 same_slots d [] = refl
 same_slots d (s ∷ ss) = same_slots (after_step d s) ss
 
+pub same_limit : (d : RosterView MailTold) (ss : List RosterStep) → (after_steps d ss).session_limit ≡ d.session_limit
+same_limit d [] = refl
+same_limit d (s ∷ ss) = same_limit (after_step d s) ss
+
 -- the slots are the same
 pub links_same : (n : ℕ) (d e : RosterView MailTold) (visits : Visits) → e.slots ≡ d.slots → HasLinks n d visits → HasLinks n e visits
 links_same n d e visits same was =
@@ -21,7 +25,6 @@ links_same n d e visits same was =
     record {
       given = was.given;
       out = subst (λ (xs : Slots). length visits.back + count_of is_connection (children_of xs) ≤ length visits.given) (sym same) was.out;
-      each = λ i from to. (let h = was.each i from to in (h.0, subst (HasLink i) (at h.0) h.1));
       back = λ k child has. was.back k child (subst (λ (x : SlotView MailTold). Contains x.past child) (sym (at k)) has);
     }
 
@@ -88,13 +91,6 @@ module _ (k : ℕ) (d e : RosterView MailTold) where
   seen_at near = get_or-map child_in_slot d.slots k (slot_view [] Unused) None near
 
   module _ (x : SlotView MailTold) (notes : RosterNotes) (became : SlotBecame k x notes d e) where
-    -- each slot keeps its links where that one does
-    each_slot : (i j : ℕ) → HasLink i (slot_at d j) → (HasLink i (slot_at d k) → HasLink i x) → HasLink i (slot_at e j)
-    each_slot i j has here = by_test (nat_eq j k)
-        (λ is. subst (λ (m : ℕ). HasLink i (slot_at e m)) (sym (let same : j ≡ k = grind (arith, is) in same))
-        (subst (HasLink i) (sym became.here) (here (subst (λ (m : ℕ). HasLink i (slot_at d m)) (let same : j ≡ k = grind (arith, is) in same) has))))
-        (λ isnt. subst (HasLink i) (sym (became.others j (grind (arith, isnt)))) has)
-
     -- whoever is in a slot's past was there, or is in that one's
     past_in : (j : ℕ) (child : PastChild MailTold) → Contains (slot_at e j).past child → Contains (slot_at d j).past child ⊎ Contains x.past child
     past_in j child has = by_test (nat_eq j k)
@@ -110,13 +106,8 @@ module _ (k : ℕ) (d e : RosterView MailTold) where
       record {
         given = was.given;
         out = subst (λ (cs : List (Option (ℕ × Kind))). length visits.back + count_of is_connection cs ≤ length visits.given) (sym same) was.out;
-        each = λ i from to. (let h = was.each i from to in (h.0, each_slot _ notes became i h.0 h.1 (still i)));
         back = λ j child has. elim (past_in _ notes became j child has) [ inl old ↦ was.back j child old | inr old ↦ was.back k child old ];
       }
-    where
-      still : (i : ℕ) → HasLink i (slot_at d k) → HasLink i (running_slot (slot_at d k) o last)
-      still i (inl h) = inl (h.0, sym sight ∙ h.1, h.2)
-      still i (inr h) = inr h
 
   -- a child that answers a connection sits there
   pub is_out : CountsChildren → (o : Offer MailTold) (link : LinkTold) (status : Status) → k < length d.slots → (slot_at d k).sight ≡ Assigned o
@@ -140,7 +131,6 @@ module _ (k : ℕ) (d e : RosterView MailTold) where
       record {
         given = long ∙ was.given;
         out = omega (arith, less, few, out, long);
-        each = λ i from to. (let h = was.each i from to in (h.0, each_slot _ notes became i h.0 h.1 (gone i)));
         back = λ j child has. elim (past_in _ notes became j child has) [
           | inl old ↦ opened_more back child.back visits (was.back j child old)
           | inr new ↦ elim (Contains-push_cases (slot_at d k).past (past_child o status active back) child new) [
@@ -149,18 +139,10 @@ module _ (k : ℕ) (d e : RosterView MailTold) where
           ]
         ];
       }
-    where
-      gone : (i : ℕ) → HasLink i (slot_at d k) → HasLink i (released_slot (slot_at d k) (past_child o status active back))
-      gone i (inl h) = inr (past_child o status active back, Contains-push (slot_at d k).past _, (let same : h.0 ≡ o = (let both : Assigned h.0 ≡ Assigned o = sym h.1 ∙ sight in cc) in subst (λ (p : Offer MailTold). GivesLink i p.given) same h.2))
-      gone i (inr h) = inr (h.0, Contains-append_left (slot_at d k).past _ h.0 h.1, h.2)
 
   module _ (pid : ℕ) (kind : Kind) (given : MailTold) (near : k < length d.slots) (free : (slot_at d k).sight ≡ Unused) (has : HasAssigned k pid kind given d e) where
     abbrev offer : Offer MailTold
     offer = has.0
-
-    sits : (i : ℕ) → HasLink i (slot_at d k) → HasLink i (assigned_slot (slot_at d k) offer)
-    sits i (inl h) = absurd (let both : Unused ≡ Assigned h.0 = sym free ∙ h.1 in cc)
-    sits i (inr h) = inr h
 
     more : CountsChildren → counted e ≡ counted d + bit (is_connection kind)
     more counts =
@@ -177,14 +159,13 @@ module _ (k : ℕ) (d e : RosterView MailTold) where
         record {
           given = was.given;
           out = omega (arith, one, up, out);
-          each = λ i from to. (let h = was.each i from to in (h.0, each_slot _ _ has.2 i h.0 h.1 (sits i)));
           back = λ j child there. elim (past_in _ _ has.2 j child there) [ inl old ↦ was.back j child old | inr old ↦ was.back k child old ];
         }
 
     -- a child sat down with the next link
-    pub links_accepted : CountsChildren → (n : ℕ) (visits now : Visits) → now.back ≡ visits.back → length now.given ≡ length visits.given + 1 → GivesLink (n + 1) given
+    pub links_accepted : CountsChildren → (n : ℕ) (visits now : Visits) → now.back ≡ visits.back → length now.given ≡ length visits.given + 1
         → HasLinks n d visits → HasLinks (n + 1) e now
-    links_accepted counts n visits now same longer gives was =
+    links_accepted counts n visits now same longer was =
         let most : bit (is_connection kind) ≤ 1 = bit_small (is_connection kind) in
         let up = more counts in
         let out = was.out in
@@ -193,10 +174,6 @@ module _ (k : ℕ) (d e : RosterView MailTold) where
         record {
           given = omega (arith, longer, all);
           out = omega (arith, most, up, out, longer, as_long);
-          each = λ i from to. by_test (nat_le i n)
-              (λ is. (let h = was.each i from (grind (arith, is)) in (h.0, each_slot _ _ has.2 i h.0 h.1 (sits i))))
-              (λ isnt. (let last : n + 1 ≡ i = (let over : n < i = grind (arith, isnt) in omega (arith, over, to)) in
-              (k, subst (HasLink i) (sym has.2.here) (inl (offer, refl, subst (λ (m : ℕ). GivesLink m offer.given) last (subst (λ (o : Offer MailTold). GivesLink (n + 1) o.given) (sym has.1) gives))))));
           back = λ j child there. subst (λ (vs : List Visit). BackIn vs child.back) (sym same)
               (elim (past_in _ _ has.2 j child there) [ inl old ↦ was.back j child old | inr old ↦ was.back k child old ]);
         }

@@ -1,16 +1,16 @@
 -- What an act comes to.
-use Rattle.std.{proofs.Common.{◌≡◌, ℕ, ◌+◌, List, [], ◌∷◌, ◌++◌, refl, sym, ap, subst, ◌∙◌, map, arith, append-nil}, specs.Prelude.{Bool, true, false, if◌then◌else◌, Option, None, Some, Result, Ok, Err, is_some}}
-use Rattle.pm_server.specs.{pm_exit.declared.child.{Kind.Kind, Status.{Status, TheVariants.{Code, Signal}}}, Acted.LogBehind, pm_server_lines.Log.LogView, pm_state.{Starts.has_end, Journal.{all_replayed, replay_begun}, Laws.RestartsSafely, Restarts.AreAsSet, declared.{action.Action.Action, event.PmEvent.PmEvent}}, declared.end.{ServerEnd.{ServerEnd, TheVariants.{Abnormal, NoMemory}}, StartWhy.TheVariants.{Redo, Killed}, Why.TheVariants.StartupFailed}, pm_query.declared.store.StoreNo.StoreNo, pm_segment.Renewal.renewal, pm_supervisor.declared.{Ending.Ending, Limits.Limits}}
-use Rattle.pm_board_acts.{specs.{pm_board.{declared.views.PastChild.PastChild, Children.CountsChildren, Places.slot_at, Gate.gate_of}, Acts.{MayPerform, IsDone as IsDoneAtBoard, Performs as PerformsAtBoard, MayDo}, Board.{seats_of, ended_of}, Calls.{slot_for, DoesNext, StandsStill}, Final.MayEndAnywhere, Seating.{Move, Notes, ended_at, journal_of}, Sitting.KeepsPast, Standing.view, pm_worker.declared.mail.MailTold.MailTold}, proofs.FoldingLaws.journal-more}
+use Rattle.std.{proofs.Common.{◌≡◌, ◌≢◌, ℕ, ◌+◌, List, [], ◌∷◌, ◌++◌, refl, sym, ap, subst, ◌∙◌, map, arith, append-nil}, specs.Prelude.{Bool, true, false, if◌then◌else◌, Option, None, Some, Result, Ok, Err, is_some}}
+use Rattle.pm_server.specs.{pm_exit.declared.child.{Kind.Kind, Status.{Status, TheVariants.{Code, Signal}}}, Acted.LogBehind, pm_server_lines.Log.LogView, pm_state.{Starts.has_end, Journal.{all_replayed, replay_begun}, Laws.RestartsSafely, Restarts.AreAsSet, declared.{action.Action.Action, event.PmEvent.PmEvent}}, declared.end.{ServerEnd.{ServerEnd, TheVariants.{Abnormal, NoMemory}}, StartWhy.TheVariants.{Redo, Killed}, Why.TheVariants.StartupFailed}, pm_query.declared.store.StoreNo.StoreNo, pm_segment.Renewal.renewal, pm_supervisor.{declared.{Ending.Ending, Limits.Limits}, Children.{is_checkpointer, is_startup_child}}}
+use Rattle.pm_board_acts.{specs.{pm_board.{declared.views.{PastChild.PastChild, RosterView.RosterView}, Children.CountsChildren, Places.slot_at, Gate.gate_of}, Acts.{MayPerform, IsDone as IsDoneAtBoard, Performs as PerformsAtBoard, MayDo}, Board.{seats_of, ended_of}, Calls.{slot_for, DoesNext, StandsStill}, Final.MayEndAnywhere, Seating.{Move, Notes, ended_at, journal_of}, Sitting.KeepsPast, Standing.view, pm_worker.declared.mail.MailTold.MailTold}, proofs.FoldingLaws.journal-more}
 use Rattle.pm_supervisor_journal.{proofs.{EndsLaws.{last_set, spent_next}, NextsLaws.{first_is, next_given, next_spent, ended_kept, generation_kept}}, specs.{declared.act.{Act.Act, GenerationsSpent.GenerationsSpent}, Laws.KeepsALegalJournal, Standing.{Standing, act_for, done, entry_for, first_due, next_of}, Stands.any_moment}}
 use Rattle.pm_board_acts.specs.Standing as seating
 use Rattle.pm_server.specs.declared.end.Why.TheVariants as whys
 use Rattle.pm_server.specs.pm_query.declared.store.StoreNo.TheVariants as nos
-use Rattle.pm_serve_pool.specs.{pm_serve_crew.Renewals.RenewsAsTold, pm_store_shared.{declared.views.Noted.Noted, Log.noted_from, Renewed.AreApart, Told.{HasRenewed, SharedModel}}}
+use Rattle.pm_serve_pool.specs.{pm_serve_crew.Renewals.RenewsAsTold, pm_store_shared.{declared.views.Noted.Noted, Log.all_behind, Renewed.AreApart, Told.{HasRenewed, SharedModel}}}
 use Rattle.pm_server.specs.pm_state.declared.action.Action.TheVariants as action
 use Rattle.pm_server.specs.pm_state.declared.event.PmEvent.TheVariants as entry
 use Rattle.pm_server.specs.pm_supervisor.declared.Ending.TheVariants as endings
-use Rattle.pm_postmaster.{specs.{declared.server.Came.Came, Acting.{EndBehind, Performs, end_by, is_killed, is_short, refused_by}, Looking.came_of, Serving.{EndsWith, HasStopped, IsCausedBehind, IsEndBehind, IsServing, Outset, Renews, Stops}, View.View, Requests.{IsAsked, ended_in}}, proofs.{Acted.{Acts, Stands, acted, links_acted, slots_acted}, Calling.{IsBeside, still}, Asked.asked_all, Owed.{acts_ask_none, end_due, owes_acted}, Going.{AsksAt, LeavesOutside, LeavesStore, asks_nothing, came_on, drawn_at, pid_at, renews_on, stopped_at}, Redoing.{acts_tell_none, redos_still, redos_told}, Renewing.{AreQuiet, renews_reset, renews_short}}}
+use Rattle.pm_postmaster.{specs.{declared.came.{Came.Came, LastCame.LastCame}, Acting.{EndBehind, Performs, end_by, is_killed, is_short, refused_by, after_crash, after_start, crashed_by}, Looking.came_of, Serving.{EndsWith, HasStopped, IsCausedBehind, IsEndBehind, IsServing, Outset, Renews, Stops, CrashedOtherwise, HasComeOut, RemembersLast}, View.View, Requests.{IsAsked, ended_in}}, proofs.{Acted.{Acts, Stands, acted, links_acted, served_acted, slots_acted, limit_acted}, Calling.{IsBeside, still}, Asked.asked_all, Owed.{acts_ask_none, end_due, owes_acted}, Going.{AsksAt, LeavesOutside, LeavesStore, asks_nothing, came_on, drawn_at, pid_at, renews_on, stopped_at}, Redoing.{acts_tell_none, redos_still, redos_told}, Renewing.{AreQuiet, renews_reset, renews_short}}}
 
 -- an act tells of no loss, and of no generation but a reset
 quiet_act : (a : Action) (s : Standing) → (a ≡ action.Reset → ⊥) → AreQuiet (entry_for a s ∷ [])
@@ -24,15 +24,24 @@ quiet_act action.Reset s other = absurd (other refl)
 quiet_act (action.Say line) s other = record { since = λ so. refl; lost = λ so. refl; resets = refl }
 quiet_act (action.End how) s other = record { since = λ so. refl; lost = λ so. refl; resets = refl }
 
--- the machine has ended
-ended_so : (limits : Limits) (how : Ending) (came : Option Came) (journal : List PmEvent) → EndsWith (entry.Ended how) journal → AreAsSet limits journal
-    → IsEndBehind limits (end_by how came) journal
-ended_so limits endings.Clean came journal ends set = ends
-ended_so limits endings.AfterCrash came journal ends set = ends
-ended_so limits endings.RestartOff came journal ends set =
-    (ends, (last_set limits ends.0 (entry.Ended endings.RestartOff ∷ []) (subst (AreAsSet limits) ends.1 set)).0)
-ended_so limits endings.StartupFailed None journal ends set = tt
-ended_so limits endings.StartupFailed (Some came) journal ends set = by (is_killed came.status) came.fault
+-- it has ended after a crash
+crash_so : (limits : Limits) (came : Option Came) (journal : List PmEvent) → EndsWith (entry.Ended endings.AfterCrash) journal → IsEndBehind limits (after_crash came) journal
+crash_so limits None journal ends = ends
+crash_so limits (Some came) journal ends = by came.fault
+  where
+    by : (fault : Option StoreNo) → IsEndBehind limits (crashed_by fault) journal
+    by None = ends
+    by (Some (nos.Redo fault)) = ends
+    by (Some (nos.Stale mine found)) = ends
+    by (Some nos.Disk) = ends
+    by (Some (nos.Broken since)) = ends
+    by (Some (nos.Full need room)) = ends
+    by (Some nos.NoMemory) = tt
+
+-- it has ended since no startup child brought the data up to date
+start_so : (limits : Limits) (came : Option Came) (journal : List PmEvent) → EndsWith (entry.Ended endings.StartupFailed) journal → IsEndBehind limits (after_start came) journal
+start_so limits None journal ends = tt
+start_so limits (Some came) journal ends = by (is_killed came.status) came.fault
   where
     by : (killed : Bool) (fault : Option StoreNo) → IsEndBehind limits (if killed then Abnormal (StartupFailed Killed) else refused_by fault) journal
     by true fault = ends
@@ -48,32 +57,65 @@ ended_so limits endings.StartupFailed (Some came) journal ends set = by (is_kill
     by false (Some (nos.Full need room)) = tt
     by false (Some nos.NoMemory) = tt
 
+-- the machine has ended
+ended_so : (limits : Limits) (how : Ending) (came : LastCame) (journal : List PmEvent) → EndsWith (entry.Ended how) journal → AreAsSet limits journal
+    → IsEndBehind limits (end_by how came) journal
+ended_so limits endings.Clean came journal ends set = ends
+ended_so limits endings.AfterCrash came journal ends set = crash_so limits came.checkpointer journal ends
+ended_so limits endings.RestartOff came journal ends set =
+    (ends, (last_set limits ends.0 (entry.Ended endings.RestartOff ∷ []) (subst (AreAsSet limits) ends.1 set)).0)
+ended_so limits endings.StartupFailed came journal ends set = start_so limits came.startup journal ends
+
 killed_by : (status : Status) → is_killed status ≡ true → status ≡ Signal 9
 killed_by (Signal number) is = ap Signal (let same : number ≡ 9 = grind (arith, is) in same)
 killed_by (Code code) is = absurd (let no_ : false ≡ true = is in cc)
 
-caused_so : (how : Ending) (came : Option Came) (moves : List Move) (past : List (PastChild MailTold)) → map ended_of past ≡ ended_at 0 moves → came ≡ came_of past
-    → IsCausedBehind (end_by how came) moves past
-caused_so endings.Clean came moves past told is = tt
-caused_so endings.AfterCrash came moves past told is = tt
-caused_so endings.RestartOff came moves past told is = tt
-caused_so endings.StartupFailed None moves past told is = tt
-caused_so endings.StartupFailed (Some came) moves past told is = by (is_killed came.status) refl came.fault refl
+-- nobody was released yet but those that the moves tell of
+out_so : (is_it : Kind → Bool) (k : ℕ) (moves : List Move) (came : Option Came) (past : List (PastChild MailTold)) → map ended_of past ≡ ended_at k moves → came ≡ came_of is_it past
+    → HasComeOut is_it past k moves came
+out_so is_it k moves came past told is = record { front = past; others = []; past_is = sym (append-nil past); told = told; came_is = sym is }
+
+crash_caused : (came : Option Came) (moves : List Move) (d : RosterView MailTold) → HasComeOut is_checkpointer (slot_at d 1).past 1 moves came → IsCausedBehind (after_crash came) moves d
+crash_caused None moves d out = record { came = None; out = out; other = tt }
+crash_caused (Some came) moves d out = by came.fault refl
+  where
+    crashed : came.fault ≢ Some nos.NoMemory → CrashedOtherwise moves (slot_at d 1).past
+    crashed other = record { came = Some came; out = out; other = other }
+
+    by : (fault : Option StoreNo) → came.fault ≡ fault → IsCausedBehind (crashed_by fault) moves d
+    by None faulted = crashed (λ short. (let both = sym faulted ∙ short in cc))
+    by (Some (nos.Redo fault)) faulted = crashed (λ short. (let both = sym faulted ∙ short in cc))
+    by (Some (nos.Stale mine found)) faulted = crashed (λ short. (let both = sym faulted ∙ short in cc))
+    by (Some nos.Disk) faulted = crashed (λ short. (let both = sym faulted ∙ short in cc))
+    by (Some (nos.Broken since)) faulted = crashed (λ short. (let both = sym faulted ∙ short in cc))
+    by (Some (nos.Full need room)) faulted = crashed (λ short. (let both = sym faulted ∙ short in cc))
+    by (Some nos.NoMemory) faulted = tt
+
+start_caused : (came : Option Came) (moves : List Move) (d : RosterView MailTold) → HasComeOut is_startup_child (slot_at d 0).past 0 moves came → IsCausedBehind (after_start came) moves d
+start_caused None moves d out = tt
+start_caused (Some came) moves d out = by (is_killed came.status) refl came.fault refl
   where
     by : (killed : Bool) → is_killed came.status ≡ killed → (fault : Option StoreNo) → came.fault ≡ fault
-        → IsCausedBehind (if killed then Abnormal (StartupFailed Killed) else refused_by fault) moves past
-    by true kill fault faulted = record { front = past; others = []; past_is = sym (append-nil past); told = told; came = came; came_is = sym is; reason_is = killed_by came.status kill }
+        → IsCausedBehind (if killed then Abnormal (StartupFailed Killed) else refused_by fault) moves d
+    by true kill fault faulted = record { came = came; out = out; reason_is = killed_by came.status kill }
     by false kill None faulted = tt
     by false kill (Some (nos.Redo fault)) faulted = short (is_short fault)
       where
-        short : (b : Bool) → IsCausedBehind (if b then NoMemory else Abnormal (StartupFailed (Redo fault))) moves past
+        short : (b : Bool) → IsCausedBehind (if b then NoMemory else Abnormal (StartupFailed (Redo fault))) moves d
         short true = tt
-        short false = record { front = past; others = []; past_is = sym (append-nil past); told = told; came = came; came_is = sym is; reason_is = faulted }
+        short false = record { came = came; out = out; reason_is = faulted }
     by false kill (Some (nos.Stale mine found)) faulted = tt
     by false kill (Some nos.Disk) faulted = tt
     by false kill (Some (nos.Broken since)) faulted = tt
     by false kill (Some (nos.Full need room)) faulted = tt
     by false kill (Some nos.NoMemory) faulted = tt
+
+caused_so : (how : Ending) (came : LastCame) (moves : List Move) (d : RosterView MailTold) → ((k : ℕ) → map ended_of (slot_at d k).past ≡ ended_at k moves) → RemembersLast came d
+    → IsCausedBehind (end_by how came) moves d
+caused_so endings.Clean came moves d told is = tt
+caused_so endings.AfterCrash came moves d told is = crash_caused came.checkpointer moves d (out_so is_checkpointer 1 moves came.checkpointer (slot_at d 1).past (told 1) is.checkpointer)
+caused_so endings.RestartOff came moves d told is = tt
+caused_so endings.StartupFailed came moves d told is = start_caused came.startup moves d (out_so is_startup_child 0 moves came.startup (slot_at d 0).past (told 0) is.startup)
 
 module _ {D C : Type 0} (gives : C → ℕ → Type 0) (counts : CountsChildren) (may : MayEndAnywhere MailTold) (legal : KeepsALegalJournal) (safely : RestartsSafely) where
   -- An act was noted, and done at the board.
@@ -113,9 +155,11 @@ module _ {D C : Type 0} (gives : C → ℕ → Type 0) (counts : CountsChildren)
       goes = is.goes;
       standing = is.standing;
       links = λ n visits. links_acted counts n before.board mid.board (seats_of before.board) (seats_of mid.board) ordered visits (act_for a before.work.standing) is.board is.allowed;
+      served = served_acted before.board mid.board (seats_of before.board) (seats_of mid.board) ordered (act_for a before.work.standing) is.board is.allowed;
       log = subst (λ (l : LogView). LogBehind (act_for a before.work.standing) l log) is.log said;
       visits = is.visits;
       slots = slots_acted before.board mid.board (seats_of before.board) (seats_of mid.board) ordered (act_for a before.work.standing) is.board;
+      limit = limit_acted before.board mid.board (seats_of before.board) (seats_of mid.board) ordered (act_for a before.work.standing) is.board;
       leaves = record {
         table = is.table;
         home = home.table ∙ ap (λ (s : SharedModel D). s.table) is.shared;
@@ -171,13 +215,13 @@ module _ {D C : Type 0} (gives : C → ℕ → Type 0) (counts : CountsChildren)
           renews = subst (λ (es : List PmEvent). Renews es lost shared.own) (sym journal_now)
               (renews_on gives (journal_of outset.count was.moves) (entry_for a before.work.standing ∷ []) before now (quiet_act a before.work.standing other) leaves was.renews);
           redos = redos_still was.moves (Notes (entry_for a before.work.standing) (slot_for a) ∷ []) before.board mid.board (acts_tell_none a before.work.standing) is.past was.redos;
-          came = came_on gives before now leaves was.came;
+          came = came_on gives before now is.came is.past was.came;
           asks = asks_now;
         }
 
     -- the store was renewed
     pub renewed : a ≡ action.Reset → (others : List ℕ) → lost ≡ [] → AreApart mid.lost others
-        → HasRenewed mid.shared (before.work.standing.generation + 1) (renewal (mid.lost ++ others) (before.work.standing.generation + 1)) shared → IsServing gives outset now
+        → HasRenewed mid.shared (before.work.standing.generation + 1) others (renewal (mid.lost ++ others) (before.work.standing.generation + 1)) shared → IsServing gives outset now
     renewed reset others none apart has =
         let generation : ℕ = before.work.standing.generation + 1 in
         let stands = stands_now (record {
@@ -187,9 +231,9 @@ module _ {D C : Type 0} (gives : C → ℕ → Type 0) (counts : CountsChildren)
           disk = ap (λ (s : SharedModel D). s.first) has.1;
         }) in
         let e : entry_for a before.work.standing ≡ entry.Reset generation = ap (λ (x : Action). entry_for x before.work.standing) reset in
-        let owns : shared.own ≡ before.shared.own ++ noted_from has.0 (renewal (before.lost ++ others) generation) =
-        ap (λ (s : SharedModel D). s.own) has.1 ∙ (ap (λ (s : SharedModel D). s.own ++ noted_from has.0 (renewal (mid.lost ++ others) generation)) is.shared
-        ∙ ap (λ (l : List ℕ). before.shared.own ++ noted_from has.0 (renewal (l ++ others) generation)) is.lost) in
+        let owns : shared.own ≡ before.shared.own ++ all_behind has.0 (renewal (before.lost ++ others) generation) =
+        ap (λ (s : SharedModel D). s.own) has.1 ∙ (ap (λ (s : SharedModel D). s.own ++ all_behind has.0 (renewal (mid.lost ++ others) generation)) is.shared
+        ∙ ap (λ (l : List ℕ). before.shared.own ++ all_behind has.0 (renewal (l ++ others) generation)) is.lost) in
         record {
           moves = moves_now;
           at = stands.at;
@@ -201,9 +245,9 @@ module _ {D C : Type 0} (gives : C → ℕ → Type 0) (counts : CountsChildren)
               (subst (λ (l : List ℕ). Renews (journal_of outset.count was.moves ++ entry.Reset generation ∷ []) l shared.own) (sym none)
               (subst (λ (own : List Noted). Renews (journal_of outset.count was.moves ++ entry.Reset generation ∷ []) [] own) (sym owns)
               (renews_reset (journal_of outset.count was.moves) before.lost before.shared.own generation has.0 others
-              (subst (λ (l : List ℕ). AreApart l others) is.lost apart) was.renews)));
+              (subst (λ (l : List ℕ). AreApart l others) is.lost apart) has.2 was.renews)));
           redos = redos_still was.moves (Notes (entry_for a before.work.standing) (slot_for a) ∷ []) before.board mid.board (acts_tell_none a before.work.standing) is.past was.redos;
-          came = is.came ∙ (was.came ∙ ap came_of (sym (is.past 0)));
+          came = came_on gives before now is.came is.past was.came;
           asks = asks_now;
         }
 
@@ -230,6 +274,7 @@ module _ {D C : Type 0} (gives : C → ℕ → Type 0) (counts : CountsChildren)
               (subst (λ (own : List Noted). RenewsAsTold (journal_of outset.count was.moves ++ entry.Reset (before.work.standing.generation + 1) ∷ []) own)
               (sym (ap (λ (s : SharedModel D). s.own) same ∙ ap (λ (s : SharedModel D). s.own) is.shared))
               (renews_short (journal_of outset.count was.moves) before.lost before.shared.own (before.work.standing.generation + 1) was.renews));
+          opened = λ enough. absurd (enough refl);
           redos = redos_told moves_now mid.board stands.at.seated.had.ended
               (redos_still was.moves (Notes (entry_for a before.work.standing) (slot_for a) ∷ []) before.board mid.board (acts_tell_none a before.work.standing) is.past was.redos);
         }
@@ -276,7 +321,7 @@ module _ {D C : Type 0} (gives : C → ℕ → Type 0) (counts : CountsChildren)
         let last : EndsWith (entry.Ended how) journal = (journal_of outset.count was.moves, journal-more outset.count was.moves (Notes (entry.Ended how) (slot_for (action.End how)))) in
         let set = (safely.in_order outset.limits any_moment journal (legal.legal outset.limits journal mid.work.standing now.at.past now.at.stands)).as_set in
         subst (λ (r : Result (Unit {0}) ServerEnd). Comes outset r behind) (sym by.ends)
-        (stopped_at gives may legal outset (end_by how mid.came) behind now (ended_so outset.limits how mid.came journal last set) (caused_so how mid.came now.moves (slot_at mid.board 0).past (now.at.seated.had.ended 0) now.came)
+        (stopped_at gives may legal outset (end_by how mid.came) behind now (ended_so outset.limits how mid.came journal last set) (caused_so how mid.came now.moves mid.board now.at.seated.had.ended now.came)
         (λ owes. absurd (paid how is owes)))
 
   -- there is no further generation, and nothing was noted

@@ -1,10 +1,10 @@
 -- What a server leaves that has ended.
-use Rattle.std.{proofs.Common.{◌≡◌, ℕ, ◌<◌, ◌≤◌, List, ◌++◌, sym, ap, subst, ◌∙◌, length, append_assoc}, specs.Prelude.{Option, IfSome}}
+use Rattle.std.{proofs.Common.{◌≡◌, ℕ, ◌<◌, ◌≤◌, List, ◌++◌, sym, ap, subst, ◌∙◌, length, append_assoc}, specs.Prelude.{Bool, Option, IfSome, is_some}}
 use Rattle.atomic_table.specs.Seated.{TableId}
 use Rattle.pm_board_acts.specs.{pm_board.{declared.views.{PastChild.PastChild, RosterView.RosterView}, Places.slot_at}, Chained.LinksCameBack, Final.{EndsWithNobody, IsEndingAt, NobodySits}, Seating.journal_of, Standing.IsBoardOf, pm_worker.declared.mail.MailTold.MailTold}
 use Rattle.pm_serve_pool.specs.{pm_serve_crew.{Left.{AreLeft, Manner}, Pids.AreUsedOnce, Redos.RedosAreThose}, Closing.{HasHadLast, KeepsBoard, MayClose}, pm_store_shared.declared.views.Noted.Noted}
 use Rattle.pm_server.specs.{pm_supervisor_journal.Stands.highest_pid, pm_outside.Visits.Visits, pm_query.declared.book.BookEntry.BookEntry, declared.end.ServerEnd.ServerEnd}
-use Rattle.pm_postmaster.{specs.{Clearing.{Clears, MayClear}, Links.AreBackIn, Requests.{IsAsked, ended_in}, Serving.{HasStopped, IsCausedBehind, Outset, last_pid_in}, View.View}, proofs.{Finished.{asked_behind, back_if, caused_more, home_if, none_behind, once_after, past_after}, Redoing.redos_behind}}
+use Rattle.pm_postmaster.{specs.{Clearing.{Clears, MayClear}, Links.{AreAnswered, AreBackIn, AreServed, accepted_in}, Requests.{IsAsked, ended_in}, Serving.{HasStopped, IsCausedBehind, Outset, last_pid_in}, View.View}, proofs.{Finished.{asked_behind, back_if, caused_more, home_if, none_behind, once_after, past_after}, Offers.answered_by, Redoing.redos_behind}}
 
 pub clears_at : (t u w : TableId) (d e f : RosterView MailTold) (a b : Option Visits) → t ≡ u → d ≡ e → Clears t d a w f b → Clears u e a w f b
 clears_at t u w d e f a b table board clears =
@@ -53,8 +53,8 @@ module _ {D C : Type 0} (gives : C → ℕ → Type 0) (outset : Outset D C) (en
     pub once : AreUsedOnce closed
     once = once_after outset.limits outset.count stopped.moves cleared closed nobody ending gone slots left.slots stopped.legal stopped.drawn last
 
-    pub cause : IsCausedBehind end stopped.moves (slot_at closed 0).past
-    cause = let more = past 0 in caused_more end stopped.moves (slot_at v.board 0).past more.0 (slot_at closed 0).past more.1 stopped.cause
+    pub cause : IsCausedBehind end stopped.moves closed
+    cause = caused_more end stopped.moves v.board closed past stopped.cause
 
     pub asked : IsAsked end stopped.moves v.lines (ended_in visits) (last_pid_in outset.limits (journal_of outset.count stopped.moves))
     asked = asked_behind end stopped.moves v.lines (ended_in v.visits) (ended_in visits) (last_pid_in outset.limits (journal_of outset.count stopped.moves)) clears.ended stopped.asked
@@ -62,12 +62,21 @@ module _ {D C : Type 0} (gives : C → ℕ → Type 0) (outset : Outset D C) (en
     pub redos : RedosAreThose stopped.moves closed
     redos = redos_behind stopped.moves v.board closed past stopped.redos
 
+    -- whoever was offered a connection while it served still is
+    served : AreServed (is_some visits) (accepted_in (journal_of outset.count stopped.moves)) cleared
+    served = subst (λ (b : Bool). AreServed b (accepted_in (journal_of outset.count stopped.moves)) cleared) (sym clears.numbered) (clears.served _ _ stopped.holds.served)
+
+    pub connections : AreAnswered (is_some visits) (accepted_in (journal_of outset.count stopped.moves)) closed
+    connections =
+        answered_by (is_some visits) (accepted_in (journal_of outset.count stopped.moves)) cleared closed (nobody.unused outset.count stopped.moves cleared ending gone)
+        (past_after outset.limits outset.count stopped.moves cleared closed nobody ending gone slots left.slots stopped.legal stopped.drawn last) served
+
     pub links : IfSome visits (LinksCameBack (journal_of outset.count stopped.moves))
     links =
         home_if manner outset.count cleared closed own book left (nobody.unused outset.count stopped.moves cleared ending gone)
         (λ k near. past_after outset.limits outset.count stopped.moves cleared closed nobody ending gone slots left.slots stopped.legal stopped.drawn last k)
         (λ k far. none_behind cleared k (subst (λ (n : ℕ). n ≤ k) (sym slots) far))
-        (journal_of outset.count stopped.moves) visits (clears.links _ stopped.holds.links)
+        (journal_of outset.count stopped.moves) visits (clears.links _ stopped.holds.links) served
 
     pub returned : IfSome visits (AreBackIn closed)
     returned = back_if manner outset.count cleared closed own book left last visits _ (clears.links _ stopped.holds.links)

@@ -1,6 +1,6 @@
 -- A look at a slot.
 use Rattle.std.{proofs.Common.{◌≡◌, inl, inr, ℕ, ◌<◌, List, [], ◌∷◌, ◌++◌, refl, sym, ap, subst, ◌∙◌, length, arith, append-nil, nat_eq}, specs.Prelude.{Bool, true, false, if◌then◌else◌, Option, None, Some, IfSome, is_some, option_map, unwrap_or}}
-use Rattle.pm_server.specs.{pm_facts.Bools.by_test, pm_exit.declared.child.{Kind.Kind, Status.Status}, pm_supervisor_journal.{declared.{exit.ChildExit.ChildExit, roll.Enrolled.Enrolled}, Laws.KeepsALegalJournal, Standing.{Standing, all_noted, called, ends_redo, exit_call, exit_entry, exiting, later, made}, Stands.AtWork}, pm_outside.Visits.Visits, declared.end.ServerEnd.TheVariants.NoMemory, pm_state.{declared.event.PmEvent.PmEvent, Journal.lines_of}, pm_supervisor.Children.is_startup_child}
+use Rattle.pm_server.specs.{pm_facts.Bools.by_test, pm_exit.declared.child.{Kind.Kind, Status.Status}, pm_supervisor_journal.{declared.{exit.ChildExit.ChildExit, roll.Enrolled.Enrolled}, Laws.KeepsALegalJournal, Standing.{Standing, all_noted, called, ends_redo, exit_call, exit_entry, exiting, later, made}, Stands.AtWork}, pm_outside.Visits.Visits, declared.end.ServerEnd.TheVariants.NoMemory, pm_state.{declared.event.PmEvent.PmEvent, Journal.lines_of}, pm_supervisor.Children.{is_checkpointer, is_startup_child}}
 use Rattle.pm_server.specs.pm_exit.declared.child.Kind.TheVariants as kinds
 use Rattle.pm_board_acts.specs.pm_board.declared.views.Letter as Letter
 use Rattle.pm_board_acts.{specs.{pm_board.{declared.{views.{Offer.Offer, RosterNotes.RosterNotes, RosterView.RosterView, PastChild.PastChild, Sight.TheVariants.{Assigned, Unused}, SlotView.SlotView}, roster.Released.Released}, Children.CountsChildren, Models.SlotBecame, Places.slot_at, Told.{past_child, released_slot}}, pm_supervisor_chain.Chain.{lost_from, resets_of, lost_since}, Board.{SeenAs, seat_at, seats_of}, Calls.{IsCutOff, exit_of, exits, kept_by}, Mails.kept_told, Chained.pids_accepted, Final.MayEndAnywhere, Seating.{Move, journal_of}, Sitting.{HasFoundNone, HasReaped}, Standing.view, pm_worker.{declared.mail.MailTold.MailTold, Mails.ComesBack}}, proofs.FoldingLaws.{journal-notes, none_more}}
@@ -9,7 +9,7 @@ use Rattle.pm_serve_pool.specs.{pm_serve_crew.Renewals.RenewsAsTold, pm_store_sh
 use Rattle.pm_board_acts.specs.Standing as seating
 use Rattle.pm_server.specs.pm_state.declared.event.PmEvent.TheVariants as entry
 use Rattle.pm_board_acts.specs.pm_worker.declared.mail.MailTold.TheVariants as mail
-use Rattle.pm_postmaster.{specs.{Links.HasLinks, declared.server.Came.Came, Looking.{MayComeBack, TakesIn, came_by, came_from, came_of, fault_in, lost_with, opened}, Serving.{HasStopped, Holds, IsServing, Moments, Outset, Renews}, View.View, Requests.{IsAsked, ended_in}}, proofs.{Calling.IsBeside, Asked.{asked_all, ended_opened, none_asked, owes_same}, Owed.{exits_ask_none, owes_exited}, Going.{GoesBy, Leaves, LeavesAsking, LeavesOutside, LeavesStore, asks_nothing, drawn_at, holds_on, pid_at, serves_on}, Linking.{is_out, links_released, links_running, links_same}, Moments.{exited_given, exited_moments, later_given}, Redoing.{redos_behind, redos_exited, redos_told}, Renewing.{renews_as_told, renews_exited}, Steps.{count_more, quiet_none}}}
+use Rattle.pm_postmaster.{specs.{Links.{HasLinks, KeepsServed}, declared.came.{Came.Came, LastCame.LastCame}, Looking.{MayComeBack, TakesIn, came_by, came_from, came_of, lost_with, opened, came_out, last_with}, Serving.{HasStopped, Holds, IsServing, Moments, Outset, Renews}, View.View, Requests.{IsAsked, ended_in}}, proofs.{Calling.IsBeside, Asked.{asked_all, ended_opened, none_asked, owes_same}, Owed.{exits_ask_none, owes_exited}, Going.{GoesBy, Leaves, LeavesAsking, LeavesOutside, LeavesStore, asks_nothing, drawn_at, holds_on, pid_at, serves_on}, Linking.{is_out, links_released, links_running, links_same}, Offers.{served_found, served_on, served_released}, Moments.{exited_given, exited_moments, later_given}, Redoing.{redos_behind, redos_exited, redos_told}, Renewing.{renews_as_told, renews_exited}, Steps.{count_more, quiet_none}}}
 
 -- ---- links
 
@@ -73,9 +73,26 @@ links_still n m k d e visits now near found is count was = subst (λ (v : Option
     by None had = tt
     by (Some its) had = subst (λ (x : ℕ). HasLinks x e its) (sym count) (one its found had)
 
+-- who was offered a connection was so before
+pub served_back : (k : ℕ) (kind : Kind) (status : Status) (active : Bool) (back : MailTold) (d e : RosterView MailTold) → Leaving k kind status active back d e → KeepsServed d e
+served_back k kind status active back d e has = served_released k d e has.offer status active back has.notes has.sight has.became
+
+-- links are numbered as before
+pub numbered_back : (back : MailTold) (visits : Option Visits) → is_some (option_map (opened back) visits) ≡ is_some visits
+numbered_back back None = refl
+numbered_back back (Some its) = refl
+
 pub slots_found : (k : ℕ) (d e : RosterView MailTold) → HasFoundNone k d e → length e.slots ≡ length d.slots
 slots_found k d e (inl same) = ap (λ (x : RosterView MailTold). length x.slots) same
 slots_found k d e (inr still) = still.1.became.count
+
+-- the limit of sessions stays
+pub limit_found : (k : ℕ) (d e : RosterView MailTold) → HasFoundNone k d e → e.session_limit ≡ d.session_limit
+limit_found k d e (inl same) = ap (λ (x : RosterView MailTold). x.session_limit) same
+limit_found k d e (inr still) = ap (λ (x : RosterView MailTold). x.session_limit) still.1.became.whole
+
+pub limit_back : (k : ℕ) (kind : Kind) (status : Status) (active : Bool) (back : MailTold) (d e : RosterView MailTold) → Leaving k kind status active back d e → e.session_limit ≡ d.session_limit
+limit_back k kind status active back d e has = ap (λ (x : RosterView MailTold). x.session_limit) has.became.whole
 
 -- ---- entries
 
@@ -117,54 +134,66 @@ since_by b exit at s lost = by b exit.was_active
     by false true = refl
     by false false = refl
 
--- ---- startup children
+-- ---- startup children and checkpointers
 
-pub came_push : (so : Option Came) (past : List (PastChild MailTold)) (child : PastChild MailTold)
-    → came_from so (past ++ child ∷ []) ≡ came_by child.offer.kind child.status child.back (came_from so past)
-came_push so [] child = refl
-came_push so (x ∷ past) child = came_push (came_by x.offer.kind x.status x.back so) past child
+pub came_push : (is_it : Kind → Bool) (so : Option Came) (past : List (PastChild MailTold)) (child : PastChild MailTold)
+    → came_from is_it so (past ++ child ∷ []) ≡ last_with is_it child.offer.kind (came_out child.status child.back) (came_from is_it so past)
+came_push is_it so [] child = refl
+came_push is_it so (x ∷ past) child = came_push is_it (last_with is_it x.offer.kind (came_out x.status x.back) so) past child
 
--- a startup child sits in the first slot alone
-startup_first : (outset_count : ℕ) (moves : List Move) (d : RosterView MailTold) (seats : List (Option Enrolled)) (s : Standing) (k : ℕ) (o : Offer MailTold)
-    → seating.IsSeated outset_count moves d seats s → k < length d.slots → (slot_at d k).sight ≡ Assigned o → is_startup_child o.kind ≡ true → k ≡ 0
-startup_first count moves d seats s k o seated near sight startup =
+-- such a child fits this slot alone
+abbrev FitsAlone : (Kind → Bool) → ℕ → Type 0
+FitsAlone is_it slot = (count k : ℕ) (kind : Kind) → is_it kind ≡ true → seating.SeatServes count k kind → k ≡ slot
+
+startup_alone : FitsAlone is_startup_child 0
+startup_alone count k kinds.Startup is has = has
+startup_alone count k kinds.Checkpointer is has = absurd (let no_ : false ≡ true = is in cc)
+startup_alone count k kinds.Writer is has = absurd (let no_ : false ≡ true = is in cc)
+startup_alone count k kinds.Worker is has = absurd (let no_ : false ≡ true = is in cc)
+startup_alone count k kinds.Backend is has = absurd (let no_ : false ≡ true = is in cc)
+startup_alone count k kinds.DeadEnd is has = absurd (let no_ : false ≡ true = is in cc)
+
+checkpointer_alone : FitsAlone is_checkpointer 1
+checkpointer_alone count k kinds.Startup is has = absurd (let no_ : false ≡ true = is in cc)
+checkpointer_alone count k kinds.Checkpointer is has = has
+checkpointer_alone count k kinds.Writer is has = absurd (let no_ : false ≡ true = is in cc)
+checkpointer_alone count k kinds.Worker is has = absurd (let no_ : false ≡ true = is in cc)
+checkpointer_alone count k kinds.Backend is has = absurd (let no_ : false ≡ true = is in cc)
+checkpointer_alone count k kinds.DeadEnd is has = absurd (let no_ : false ≡ true = is in cc)
+
+-- and sits there
+sits_alone : (is_it : Kind → Bool) (slot outset_count : ℕ) (moves : List Move) (d : RosterView MailTold) (seats : List (Option Enrolled)) (s : Standing) (k : ℕ) (o : Offer MailTold)
+    → FitsAlone is_it slot → seating.IsSeated outset_count moves d seats s → k < length d.slots → (slot_at d k).sight ≡ Assigned o → is_it o.kind ≡ true → k ≡ slot
+sits_alone is_it slot count moves d seats s k o alone seated near sight such =
     by (seat_at k seated.seating.seats) refl (seated.shows.each k (subst (λ (n : ℕ). k < n) (sym seated.shows.count) near))
   where
-    serves : (kind : Kind) → is_startup_child kind ≡ true → seating.SeatServes (length seated.seating.seats) k kind → k ≡ 0
-    serves kinds.Startup is has = has
-    serves kinds.Checkpointer is has = absurd (let no_ : false ≡ true = is in cc)
-    serves kinds.Writer is has = absurd (let no_ : false ≡ true = is in cc)
-    serves kinds.Worker is has = absurd (let no_ : false ≡ true = is in cc)
-    serves kinds.Backend is has = absurd (let no_ : false ≡ true = is in cc)
-    serves kinds.DeadEnd is has = absurd (let no_ : false ≡ true = is in cc)
-
-    by : (seat : Option Enrolled) → seat_at k seated.seating.seats ≡ seat → SeenAs seated.seating.generation seat (slot_at d k).sight → k ≡ 0
+    by : (seat : Option Enrolled) → seat_at k seated.seating.seats ≡ seat → SeenAs seated.seating.generation seat (slot_at d k).sight → k ≡ slot
     by None is seen = absurd (let both : Unused ≡ Assigned o = sym seen ∙ sight in cc)
     by (Some c) is seen =
         let same : o ≡ seen.0 = (let both : Assigned o ≡ Assigned seen.0 = sym sight ∙ seen.1 in cc) in
         let kind : o.kind ≡ c.kind = ap (λ (x : Offer MailTold). x.kind) same ∙ seen.3 in
-        serves c.kind (ap is_startup_child (sym kind) ∙ startup) (seated.right k c is)
+        alone (length seated.seating.seats) k c.kind (ap is_it (sym kind) ∙ such) (seated.right k c is)
 
-came_reaped : (k : ℕ) (kind : Kind) (status : Status) (active : Bool) (back : MailTold) (before now : Option Came) (d e : RosterView MailTold) (has : Leaving k kind status active back d e)
-    → (is_startup_child has.offer.kind ≡ true → k ≡ 0) → now ≡ came_by has.offer.kind status back before
-    → before ≡ came_of (slot_at d 0).past → now ≡ came_of (slot_at e 0).past
-came_reaped k kind status active back before now d e has first is was = by_test (nat_eq k 0) here there
+came_reaped : (is_it : Kind → Bool) (slot k : ℕ) (kind : Kind) (status : Status) (active : Bool) (back : MailTold) (before now : Option Came) (d e : RosterView MailTold)
+    (has : Leaving k kind status active back d e) → (is_it has.offer.kind ≡ true → k ≡ slot) → now ≡ last_with is_it has.offer.kind (came_out status back) before
+    → before ≡ came_of is_it (slot_at d slot).past → now ≡ came_of is_it (slot_at e slot).past
+came_reaped is_it slot k kind status active back before now d e has alone is was = by_test (nat_eq k slot) here there
   where
-    here : nat_eq k 0 ≡ true → now ≡ came_of (slot_at e 0).past
+    here : nat_eq k slot ≡ true → now ≡ came_of is_it (slot_at e slot).past
     here at =
-        let zero_ : k ≡ 0 = grind (arith, at) in
-        is ∙ (ap (came_by has.offer.kind status back) (was ∙ ap (λ (j : ℕ). came_of (slot_at d j).past) (sym zero_))
-        ∙ (sym (came_push None (slot_at d k).past (past_child has.offer status active back))
-        ∙ (ap (λ (x : SlotView MailTold). came_of x.past) (sym has.became.here) ∙ ap (λ (j : ℕ). came_of (slot_at e j).past) zero_)))
+        let same : k ≡ slot = grind (arith, at) in
+        is ∙ (ap (last_with is_it has.offer.kind (came_out status back)) (was ∙ ap (λ (j : ℕ). came_of is_it (slot_at d j).past) (sym same))
+        ∙ (sym (came_push is_it None (slot_at d k).past (past_child has.offer status active back))
+        ∙ (ap (λ (x : SlotView MailTold). came_of is_it x.past) (sym has.became.here) ∙ ap (λ (j : ℕ). came_of is_it (slot_at e j).past) same)))
 
-    other : (b : Bool) → is_startup_child has.offer.kind ≡ b → (b ≡ true → k ≡ 0) → nat_eq k 0 ≡ false → came_by has.offer.kind status back before ≡ before
-    other true kind zero_ isnt = absurd (let z : k ≡ 0 = zero_ refl in grind (arith, isnt, z))
-    other false kind zero_ isnt = ap (λ (b : Bool). if b then Some (record { status = status; fault = fault_in back }) else before) kind
+    other : (b : Bool) → is_it has.offer.kind ≡ b → (b ≡ true → k ≡ slot) → nat_eq k slot ≡ false → last_with is_it has.offer.kind (came_out status back) before ≡ before
+    other true kind same isnt = absurd (let z : k ≡ slot = same refl in grind (arith, isnt, z))
+    other false kind same isnt = ap (λ (b : Bool). if b then Some (came_out status back) else before) kind
 
-    there : nat_eq k 0 ≡ false → now ≡ came_of (slot_at e 0).past
+    there : nat_eq k slot ≡ false → now ≡ came_of is_it (slot_at e slot).past
     there isnt =
-        is ∙ (other (is_startup_child has.offer.kind) refl first isnt ∙ (was
-        ∙ ap (λ (x : SlotView MailTold). came_of x.past) (sym (has.became.others 0 (λ same. (let z : k ≡ 0 = sym same in grind (arith, isnt, z)))))))
+        is ∙ (other (is_it has.offer.kind) refl alone isnt ∙ (was
+        ∙ ap (λ (x : SlotView MailTold). came_of is_it x.past) (sym (has.became.others slot (λ same. (let z : k ≡ slot = sym same in grind (arith, isnt, z)))))))
 
 -- each slot has had those that it had, and that one one more
 pub past_more : (k : ℕ) (kind : Kind) (status : Status) (active : Bool) (back : MailTold) (d e : RosterView MailTold) → Leaving k kind status active back d e
@@ -194,8 +223,11 @@ module _ {D C : Type 0} (gives : C → ℕ → Type 0) (counts : CountsChildren)
         given = tt;
         said = said_on was.moves [] refl;
         links = links_still _ _ k before.board now.board before.visits now.visits near found visits (count_more (journal_of outset.count was.moves) [] refl);
+        numbered = ap is_some visits;
+        served = served_on (is_some before.visits) (journal_of outset.count was.moves) [] before.board now.board refl (served_found k before.board now.board found);
         leaves = leaves;
         slots = slots_found k before.board now.board found;
+        limit = limit_found k before.board now.board found;
       } in
       serves_on gives outset [] [] before now was by (goes outset.limits outset.count was.moves was.at)
       (subst (λ (w : AtWork). Moments (gives outset.clock) w.standing) (sym work) was.moments)
@@ -221,8 +253,11 @@ module _ {D C : Type 0} (gives : C → ℕ → Type 0) (counts : CountsChildren)
         said = said_on was.moves es (unsaid_by (ends_redo exit) exit (later at s) s);
         links = links_back counts _ _ k kind status active back before.board now.board before.visits now.visits released visits
             (count_more (journal_of outset.count was.moves) es (alone_by (ends_redo exit) exit (later at s) s));
+        numbered = ap is_some visits ∙ numbered_back back before.visits;
+        served = served_on (is_some before.visits) (journal_of outset.count was.moves) es before.board now.board (alone_by (ends_redo exit) exit (later at s) s) (served_back k kind status active back before.board now.board released);
         leaves = leaves;
         slots = released.became.count;
+        limit = limit_back k kind status active back before.board now.board released;
       } in
       record {
         moves = was.moves ++ exits k exit at s;
@@ -236,8 +271,14 @@ module _ {D C : Type 0} (gives : C → ℕ → Type 0) (counts : CountsChildren)
             (since_by (ends_redo exit) exit (later at s) s before.lost ∙ (ap (λ (b : Bool). lost_with exit.pid b before.lost) is_active ∙ sym lost)) was.renews));
         redos = redos_exited was.moves k at exit s released.offer status active back released.notes before.board now.board released.became same_kind is_status kept
             (released.generation ∙ (was.at.seated.shows.generation ∙ sym was.at.seated.generation)) was.redos;
-        came = came_reaped k kind status active back before.came now.came before.board now.board released
-            (startup_first outset.count was.moves before.board (seats_of before.board) before.work.standing k released.offer was.at.seated released.near released.sight) came was.came;
+        came = record {
+          startup = came_reaped is_startup_child 0 k kind status active back before.came.startup now.came.startup before.board now.board released
+              (sits_alone is_startup_child 0 outset.count was.moves before.board (seats_of before.board) before.work.standing k released.offer startup_alone was.at.seated released.near released.sight)
+              (ap (λ (c : LastCame). c.startup) came) was.came.startup;
+          checkpointer = came_reaped is_checkpointer 1 k kind status active back before.came.checkpointer now.came.checkpointer before.board now.board released
+              (sits_alone is_checkpointer 1 outset.count was.moves before.board (seats_of before.board) before.work.standing k released.offer checkpointer_alone was.at.seated released.near released.sight)
+              (ap (λ (c : LastCame). c.checkpointer) came) was.came.checkpointer;
+        };
         asks = asks_nothing gives outset (exits k exit at s) before now (exits_ask_none k at exit s) asking (owes_exited s now.work.standing exit at standing unowed) was;
       }
 
@@ -252,8 +293,11 @@ module _ {D C : Type 0} (gives : C → ℕ → Type 0) (counts : CountsChildren)
         said = said_on was.moves [] refl;
         links = links_back counts _ _ k kind status active back before.board now.board before.visits now.visits released visits
             (count_more (journal_of outset.count was.moves) [] refl);
+        numbered = ap is_some visits ∙ numbered_back back before.visits;
+        served = served_on (is_some before.visits) (journal_of outset.count was.moves) [] before.board now.board refl (served_back k kind status active back before.board now.board released);
         leaves = leaves;
         slots = released.became.count;
+        limit = limit_back k kind status active back before.board now.board released;
       } in
       let ends = may.cut_off outset.limits outset.count was.moves before.work now.work before.board now.board was.at cut in
       record {
@@ -273,6 +317,7 @@ module _ {D C : Type 0} (gives : C → ℕ → Type 0) (counts : CountsChildren)
             (asked_all NoMemory was.moves before.lines (ended_in before.visits) before.listens before.work.standing was.asks (λ owes. refl))));
         renews = subst (λ (x : List Noted). RenewsAsTold (journal_of outset.count was.moves) x) (sym own)
             (renews_as_told (journal_of outset.count was.moves) before.lost before.shared.own was.renews);
+        opened = λ enough. absurd (enough refl);
         redos = redos_behind was.moves before.board now.board (past_more k kind status active back before.board now.board released) (redos_told was.moves before.board was.at.seated.had.ended was.redos);
       }
 

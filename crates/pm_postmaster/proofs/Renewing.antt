@@ -3,7 +3,7 @@ use Rattle.std.{proofs.{Common.{◌≡◌, inl, inr, ℕ, suc, ◌+◌, List, []
 use Rattle.pm_server.specs.{pm_state.declared.event.PmEvent.PmEvent, pm_query.declared.book.BookEntry.BookEntry, pm_segment.Renewal.renewal}
 use Rattle.pm_server.specs.pm_state.declared.event.PmEvent.TheVariants as entry
 use Rattle.pm_board_acts.{specs.pm_supervisor_chain.Chain.{gone_from, lost_from, opened_of, resets_of, lost_since, gone_since}, proofs.pm_supervisor_chain.FoldsLaws.{gone-append, gone_since-append, lost-append, lost_since-append, opened-append, resets-append}}
-use Rattle.pm_serve_pool.specs.{pm_serve_crew.Renewals.{BeginsWithThose, EachBeginsSo, RenewsAsTold}, pm_store_shared.{declared.views.Noted.Noted, Log.{entries_of, noted_from}, GrowsLaws.entries_noted, Renewed.AreApart}}
+use Rattle.pm_serve_pool.{specs.{pm_serve_crew.Renewals.{BeginsWithThose, EachBeginsSo, RenewsAsTold, WereInside}, pm_store_shared.{declared.views.Noted.Noted, Log.{all_behind, entries_of}, GrowsLaws.entries_behind, Renewed.{AreApart, AreAttached}}}, proofs.pm_serve_crew.RenewalsLaws.{inside_append, inside_more, inside_renewed}}
 use Rattle.pm_server.specs.pm_query.declared.book.BookEntry.TheVariants as noted
 use Rattle.pm_postmaster.specs.Serving.{Renews}
 
@@ -75,12 +75,16 @@ pub record AreQuiet (entries : List PmEvent) : Type 0 where
   pub resets : resets_of entries ≡ []
 
 module _ (journal : List PmEvent) (lost : List ℕ) (own : List Noted) where
+  -- no generation was begun
+  lost_still : (entries : List PmEvent) → lost_from (lost_since [] journal) entries ≡ [] → lost_from [] journal ≡ lost_from [] (journal ++ entries)
+  lost_still entries none = sym (lost-append [] journal entries ∙ (ap (λ (l : List (List ℕ)). lost_from [] journal ++ l) none ∙ append-nil (lost_from [] journal)))
+
   pub renews_quiet : (entries : List PmEvent) → AreQuiet entries → Renews journal lost own → Renews (journal ++ entries) lost own
   renews_quiet entries quiet was = record {
     lost_is = was.lost_is ∙ sym (lost_since-append [] journal entries ∙ quiet.since (lost_since [] journal));
     opened = was.opened ∙ sym (ap (λ (l : List ℕ). 1 ∷ l) (resets-append journal entries ∙ (ap (λ (l : List ℕ). resets_of journal ++ l) quiet.resets ∙ append-nil (resets_of journal))));
-    gone = subst (λ (l : List (List ℕ)). EachBeginsSo (gone_from [] (entries_of own)) ([] ∷ l))
-        (sym (lost-append [] journal entries ∙ (ap (λ (l : List (List ℕ)). lost_from [] journal ++ l) (quiet.lost (lost_since [] journal)) ∙ append-nil (lost_from [] journal)))) was.gone;
+    gone = subst (λ (l : List (List ℕ)). EachBeginsSo (gone_from [] (entries_of own)) ([] ∷ l)) (lost_still entries (quiet.lost (lost_since [] journal))) was.gone;
+    inside = subst (λ (l : List (List ℕ)). WereInside own ([] ∷ l)) (lost_still entries (quiet.lost (lost_since [] journal))) was.inside;
     fresh = was.fresh;
   }
 
@@ -90,39 +94,42 @@ module _ (journal : List PmEvent) (lost : List ℕ) (own : List Noted) where
   renews_exited entries now none resets since was = record {
     lost_is = sym (lost_since-append [] journal entries ∙ (ap (λ (l : List ℕ). lost_since l entries) (sym was.lost_is) ∙ since));
     opened = was.opened ∙ sym (ap (λ (l : List ℕ). 1 ∷ l) (resets-append journal entries ∙ (ap (λ (l : List ℕ). resets_of journal ++ l) resets ∙ append-nil (resets_of journal))));
-    gone = subst (λ (l : List (List ℕ)). EachBeginsSo (gone_from [] (entries_of own)) ([] ∷ l))
-        (sym (lost-append [] journal entries ∙ (ap (λ (l : List (List ℕ)). lost_from [] journal ++ l) (none (lost_since [] journal)) ∙ append-nil (lost_from [] journal)))) was.gone;
+    gone = subst (λ (l : List (List ℕ)). EachBeginsSo (gone_from [] (entries_of own)) ([] ∷ l)) (lost_still entries (none (lost_since [] journal))) was.gone;
+    inside = subst (λ (l : List (List ℕ)). WereInside own ([] ∷ l)) (lost_still entries (none (lost_since [] journal))) was.inside;
     fresh = was.fresh;
   }
 
   -- the store was renewed
-  pub renews_reset : (generation at : ℕ) (others : List ℕ) → AreApart lost others → Renews journal lost own
-      → Renews (journal ++ entry.Reset generation ∷ []) [] (own ++ noted_from at (renewal (lost ++ others) generation))
-  renews_reset generation at others apart was =
+  pub renews_reset : (generation : ℕ) (log : List BookEntry) (others : List ℕ) → AreApart lost others → AreAttached log others → Renews journal lost own
+      → Renews (journal ++ entry.Reset generation ∷ []) [] (own ++ all_behind log (renewal (lost ++ others) generation))
+  renews_reset generation log others apart attached was =
       let e : List PmEvent = entry.Reset generation ∷ [] in
       let es : List BookEntry = renewal (lost ++ others) generation in
-      let all : entries_of (own ++ noted_from at es) ≡ entries_of own ++ es =
-      map-append (λ (x : Noted). x.entry) own (noted_from at es) ∙ ap (λ (l : List BookEntry). entries_of own ++ l) (entries_noted at es) in
-      let gone : gone_from [] (entries_of (own ++ noted_from at es)) ≡ gone_from [] (entries_of own) ++ (lost ++ others) ∷ [] =
+      let all : entries_of (own ++ all_behind log es) ≡ entries_of own ++ es =
+      map-append (λ (x : Noted). x.entry) own (all_behind log es) ∙ ap (λ (l : List BookEntry). entries_of own ++ l) (entries_behind log es) in
+      let gone : gone_from [] (entries_of (own ++ all_behind log es)) ≡ gone_from [] (entries_of own) ++ (lost ++ others) ∷ [] =
       ap (gone_from []) all ∙ (gone-append [] (entries_of own) es ∙ ap (λ (l : List (List ℕ)). gone_from [] (entries_of own) ++ l)
       (ap (λ (so : List ℕ). gone_from so es) was.fresh ∙ renewal-gone [] (lost ++ others) generation)) in
       let before : lost_from [] (journal ++ e) ≡ lost_from [] journal ++ lost ∷ [] =
       lost-append [] journal e ∙ ap (λ (l : List ℕ). lost_from [] journal ++ l ∷ []) (sym was.lost_is) in
-      let many : length (gone_from [] (entries_of own)) ≡ length ([] ∷ lost_from [] journal) =
-      as-many-gone [] (entries_of own) ∙ (ap length was.opened ∙ ap suc (sym (as-many-lost [] journal))) in
+      let opened : length (opened_of (entries_of own)) ≡ length ([] ∷ lost_from [] journal) =
+      ap length was.opened ∙ ap suc (sym (as-many-lost [] journal)) in
+      let many : length (gone_from [] (entries_of own)) ≡ length ([] ∷ lost_from [] journal) = as-many-gone [] (entries_of own) ∙ opened in
       record {
         lost_is = sym (lost_since-append [] journal e);
         opened = ap opened_of all ∙ (opened-append (entries_of own) es ∙ (ap (λ (l : List ℕ). l ++ opened_of es) was.opened
             ∙ (ap (λ (l : List ℕ). (1 ∷ resets_of journal) ++ l) (renewal-opens (lost ++ others) generation) ∙ ap (λ (l : List ℕ). 1 ∷ l) (sym (resets-append journal e)))));
-        gone = subst (λ (l : List (List ℕ)). EachBeginsSo (gone_from [] (entries_of (own ++ noted_from at es))) ([] ∷ l)) (sym before)
+        gone = subst (λ (l : List (List ℕ)). EachBeginsSo (gone_from [] (entries_of (own ++ all_behind log es))) ([] ∷ l)) (sym before)
             (subst (λ (l : List (List ℕ)). EachBeginsSo l (([] ∷ lost_from [] journal) ++ lost ∷ [])) (sym gone)
             (begins-push (gone_from [] (entries_of own)) ([] ∷ lost_from [] journal) (lost ++ others) lost many was.gone (record { others = others; is = refl; apart = apart })));
+        inside = subst (λ (l : List (List ℕ)). WereInside (own ++ all_behind log es) ([] ∷ l)) (sym before)
+            (inside_append own (all_behind log es) ([] ∷ lost_from [] journal) (lost ∷ []) opened was.inside (inside_renewed log lost others generation apart attached));
         fresh = ap (gone_since []) all ∙ (gone_since-append [] (entries_of own) es ∙ renewal-since (gone_since [] (entries_of own)) (lost ++ others) generation);
       }
 
   -- at the end
   pub renews_as_told : Renews journal lost own → RenewsAsTold journal own
-  renews_as_told was = record { generations = inl was.opened; gone = was.gone }
+  renews_as_told was = record { generations = inl was.opened; gone = was.gone; inside = was.inside }
 
   -- also where the next generation was begun and there was no memory to open it
   pub renews_short : (generation : ℕ) → Renews journal lost own → RenewsAsTold (journal ++ entry.Reset generation ∷ []) own
@@ -132,4 +139,6 @@ module _ (journal : List PmEvent) (lost : List ℕ) (own : List Noted) where
         generations = inr (generation, ap (λ (l : List ℕ). l ++ generation ∷ []) was.opened ∙ ap (λ (l : List ℕ). 1 ∷ l) (sym (resets-append journal e)));
         gone = subst (λ (l : List (List ℕ)). EachBeginsSo (gone_from [] (entries_of own)) ([] ∷ l)) (sym (lost-append [] journal e))
             (begins-append (gone_from [] (entries_of own)) ([] ∷ lost_from [] journal) (lost_from (lost_since [] journal) e) was.gone);
+        inside = subst (λ (l : List (List ℕ)). WereInside own ([] ∷ l)) (sym (lost-append [] journal e))
+            (inside_more own ([] ∷ lost_from [] journal) (lost_from (lost_since [] journal) e) was.inside);
       }

@@ -1,12 +1,12 @@
 -- The calls of a turn that tell of no child.
-use Rattle.std.{proofs.Common.{◌≡◌, ℕ, List, [], ◌∷◌, ◌++◌, refl, sym, ap, subst, ◌∙◌, length, append-nil}, specs.Prelude.{Bool, true, false, if◌then◌else◌, Option, None, Some, IfSome}}
+use Rattle.std.{proofs.Common.{◌≡◌, ℕ, List, [], ◌∷◌, ◌++◌, refl, sym, ap, subst, ◌∙◌, length, append-nil}, specs.Prelude.{Bool, true, false, if◌then◌else◌, Option, None, Some, IfSome, is_some}}
 use Rattle.pm_board_acts.{specs.{pm_board.declared.views.RosterView.RosterView, pm_modes.declared.Mode.Mode, Board.seats_of, Chained.pids_accepted, Seating.{Kill, Move, Reads, Request, Seating, asked_by, entries_by, is_seated, journal_of, seating_of}, Standing.view, pm_state.{declared.event.PmEvent.PmEvent, Journal.lines_of}}, proofs.FoldingLaws.{journal-more, none_more}}
 use Rattle.pm_supervisor_journal.{proofs.NextsLaws.same_work, specs.{declared.roll.Enrolled.Enrolled, Moments.AreGiven, Standing.{Making, Standing, asking, made, ticking, turning}, Stands.AtWork}}
 use Rattle.pm_server_lines.{specs.Log.HasSaid, proofs.LogLaws.said_same}
 use Rattle.pm_worker.specs.{pm_outside.Visits.Visits, declared.mail.MailTold.MailTold}
 use Rattle.pm_board_acts.specs.Standing as seating
 use Rattle.pm_board_acts.specs.pm_state.declared.event.PmEvent.TheVariants as entry
-use Rattle.pm_postmaster.{specs.{Links.HasLinks, Serving.{IsServing, Moments, Outset}, View.View}, proofs.{Asked.{accepted-append, none_asked, owes_none, owes_same}, Going.{AsksOn, GoesBy, Leaves, LeavesAsking, LeavesOutside, LeavesStore, asks_nothing, leaves_asking, serves_on}, Redoing.TellNone, Renewing.AreQuiet, Linking.links_same, Moments.{asked_moments, later_given, ticked_moments, turned_moments}}}
+use Rattle.pm_postmaster.{specs.{Links.HasLinks, Serving.{IsServing, Moments, Outset}, View.View}, proofs.{Asked.{accepted-append, none_asked, owes_none, owes_same}, Going.{AsksOn, GoesBy, Leaves, LeavesAsking, LeavesOutside, LeavesStore, asks_nothing, leaves_asking, serves_on}, Redoing.TellNone, Renewing.AreQuiet, Linking.links_same, Offers.{served_on, served_same}, Moments.{asked_moments, later_given, ticked_moments, turned_moments}}}
 
 pub count_more : (journal more : List PmEvent) → pids_accepted more ≡ [] → length (pids_accepted (journal ++ more)) ≡ length (pids_accepted journal)
 count_more journal more none =
@@ -15,16 +15,16 @@ count_more journal more none =
 pub quiet_none : AreQuiet []
 quiet_none = record { since = λ so. refl; lost = λ so. refl; resets = refl }
 
--- links stay where they are, whatever else the port tells
+-- links stay where they are, and are numbered where they were, whatever else the port tells
 abbrev pub LinksStay : RosterView MailTold → (before now : Option Visits) → Type 0
-LinksStay d before now = (n : ℕ) → IfSome before (HasLinks n d) → IfSome now (HasLinks n d)
+LinksStay d before now = (is_some now ≡ is_some before) × ((n : ℕ) → IfSome before (HasLinks n d) → IfSome now (HasLinks n d))
 
 pub links_stay : (d : RosterView MailTold) (before now : Option Visits) → now ≡ before → LinksStay d before now
-links_stay d before now is n has = subst (λ (v : Option Visits). IfSome v (HasLinks n d)) (sym is) has
+links_stay d before now is = (ap is_some is, λ n has. subst (λ (v : Option Visits). IfSome v (HasLinks n d)) (sym is) has)
 
 same_links : (n m : ℕ) (d e : RosterView MailTold) (visits now : Option Visits) → LinksStay d visits now → e.slots ≡ d.slots → m ≡ n
     → IfSome visits (HasLinks n d) → IfSome now (HasLinks m e)
-same_links n m d e visits now stay slots count was = by now (stay n was)
+same_links n m d e visits now stay slots count was = by now (stay.1 n was)
   where
     by : (v : Option Visits) → IfSome v (HasLinks n d) → IfSome v (HasLinks m e)
     by None has = tt
@@ -38,6 +38,7 @@ module _ {D C : Type 0} (gives : C → ℕ → Type 0) where
     pub log : now.log ≡ before.log
     pub visits : LinksStay before.board before.visits now.visits
     pub slots : now.board.slots ≡ before.board.slots
+    pub limit : now.board.session_limit ≡ before.board.session_limit
     pub goes : seating.Goes more (view before.work before.board) (view now.work now.board)
     pub journal : (earlier : List Move) → seating.IsAt outset.limits outset.count earlier (view before.work before.board)
         → journal_of outset.count (earlier ++ more) ≡ journal_of outset.count earlier ++ entries
@@ -60,8 +61,11 @@ module _ {D C : Type 0} (gives : C → ℕ → Type 0) where
         given = by.given;
         said = λ said. subst (HasSaid (journal_of outset.count was.moves ++ entries) outset.log) (sym by.log) (said_same (journal_of outset.count was.moves) entries outset.log before.log by.unsaid said);
         links = same_links _ _ before.board now.board before.visits now.visits by.visits by.slots (count_more (journal_of outset.count was.moves) entries by.alone);
+        numbered = by.visits.0;
+        served = served_on (is_some before.visits) (journal_of outset.count was.moves) entries before.board now.board by.alone (served_same before.board now.board by.slots);
         leaves = by.leaves;
         slots = ap length by.slots;
+        limit = by.limit;
       } in
       serves_on gives outset more entries before now was goes (by.goes outset.limits outset.count was.moves was.at) by.moments
       (by.shared ∙ (was.generation ∙ sym by.generation)) by.quiet by.none by.store by.asks
@@ -79,6 +83,7 @@ module _ {D C : Type 0} (gives : C → ℕ → Type 0) where
         log = log;
         visits = links_stay before.board before.visits now.visits outside.visits;
         slots = ap (λ (b : RosterView MailTold). b.slots) board;
+        limit = ap (λ (b : RosterView MailTold). b.session_limit) board;
         goes = λ limits count earlier is. subst (λ (ms : List Move). seating.IsAt limits count ms (view now.work now.board)) (sym (append-nil earlier))
             (subst (seating.IsAt limits count earlier) (sym same) is);
         journal = λ earlier is. none_more outset.count earlier;
@@ -111,6 +116,7 @@ module _ {D C : Type 0} (gives : C → ℕ → Type 0) where
           log = log;
           visits = visits;
           slots = ap (λ (b : RosterView MailTold). b.slots) board;
+          limit = ap (λ (b : RosterView MailTold). b.session_limit) board;
           goes = goes;
           journal = λ earlier is. journal earlier;
           given = given;
@@ -161,9 +167,9 @@ module _ {D C : Type 0} (gives : C → ℕ → Type 0) where
     -- a child is asked to be killed, where it is there
     pub killed_on : (line : List ℕ) (pid at : ℕ) → AsksOn gives outset (Reads line (Kill pid) at ∷ []) before now
         → seating.Goes (Reads line (Kill pid) at ∷ []) (view before.work before.board) (view now.work now.board)
-        → now.work.standing ≡ before.work.standing → now.board.slots ≡ before.board.slots
+        → now.work.standing ≡ before.work.standing → now.board.slots ≡ before.board.slots → now.board.session_limit ≡ before.board.session_limit
         → IsServing gives outset before → IsServing gives outset now
-    killed_on line pid at asks goes standing slots was =
+    killed_on line pid at asks goes standing slots limit was =
         let seats = seats_of before.board in
         works_on outset (Reads line (Kill pid) at ∷ []) (asked_by (Kill pid) at seats) before now (record {
           leaves = leaves;
@@ -171,6 +177,7 @@ module _ {D C : Type 0} (gives : C → ℕ → Type 0) where
           log = log;
           visits = visits;
           slots = slots;
+          limit = limit;
           goes = goes;
           journal = λ earlier is. journal-more outset.count earlier (Reads line (Kill pid) at)
               ∙ ap (λ (x : List (Option Enrolled)). journal_of outset.count earlier ++ asked_by (Kill pid) at x)
@@ -205,15 +212,16 @@ module _ {D C : Type 0} (gives : C → ℕ → Type 0) where
     -- a line is read that asks for nothing
     pub unheeded_on : (line : List ℕ) (asks : Request) (at : ℕ) → asked_by asks at (seats_of before.board) ≡ [] → AsksOn gives outset (Reads line asks at ∷ []) before now
         → seating.Goes (Reads line asks at ∷ []) (view before.work before.board) (view now.work now.board)
-        → now.work.standing ≡ before.work.standing → now.board.slots ≡ before.board.slots
+        → now.work.standing ≡ before.work.standing → now.board.slots ≡ before.board.slots → now.board.session_limit ≡ before.board.session_limit
         → IsServing gives outset before → IsServing gives outset now
-    unheeded_on line request at nothing asks goes standing slots was =
+    unheeded_on line request at nothing asks goes standing slots limit was =
         works_on outset (Reads line request at ∷ []) [] before now (record {
           leaves = leaves;
           shared = shared;
           log = log;
           visits = visits;
           slots = slots;
+          limit = limit;
           goes = goes;
           journal = λ earlier is. journal-more outset.count earlier (Reads line request at)
               ∙ ap (λ (es : List PmEvent). journal_of outset.count earlier ++ es)

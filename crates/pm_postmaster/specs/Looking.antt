@@ -1,9 +1,9 @@
 -- What is taken in of a child that was released.
 use Rattle.std.specs.Prelude.{◌≡◌, ℕ, ◌<◌, Bool, if◌then◌else◌, List, [], ◌∷◌, ◌++◌, Option, None, Some, IfSome, option_map, length}
-use Rattle.pm_board.specs.{pm_exit.declared.child.{Kind.Kind, Status.Status}, declared.views.PastChild.PastChild, pm_supervisor.Children.is_startup_child}
+use Rattle.pm_board.specs.{pm_exit.declared.child.{Kind.Kind, Status.Status}, declared.views.PastChild.PastChild, pm_supervisor.Children.{is_checkpointer, is_startup_child}}
 use Rattle.pm_worker.specs.{pm_outside.Visits.{Visits, after_done}, pm_query.declared.store.StoreNo.StoreNo, declared.mail.MailTold.MailTold, Mails.traffic_in}
 use Rattle.pm_worker.specs.declared.mail.MailTold.TheVariants as mail
-use Rattle.pm_postmaster.specs.{declared.server.Came.Came, View.View}
+use Rattle.pm_postmaster.specs.{declared.came.{Came.Came, LastCame.LastCame}, View.View}
 
 -- a link is out, where the mail has one
 abbrev pub MayComeBack : MailTold → Option Visits → Type 0
@@ -23,18 +23,33 @@ abbrev pub fault_in : MailTold → Option StoreNo
 fault_in (mail.Aux fault kept) = fault
 fault_in _ = None
 
--- how the last startup child came out
-abbrev pub came_by : Kind → Status → MailTold → Option Came → Option Came
-came_by kind status back before = if is_startup_child kind then Some (record { status = status; fault = fault_in back }) else before
+-- how a child came out that ended so and left this mail
+abbrev pub came_out : Status → MailTold → Came
+came_out status back = record { status = status; fault = fault_in back }
 
--- so it is after these children of a slot, where it was so before them
-abbrev pub came_from : Option Came → List (PastChild MailTold) → Option Came
-came_from before [] = before
-came_from before (child ∷ past) = came_from (came_by child.offer.kind child.status child.back before) past
+-- how the last child of one kind came out, after a child that came out so
+abbrev pub last_with : (Kind → Bool) → Kind → Came → Option Came → Option Came
+last_with is_it kind came before = if is_it kind then Some came else before
 
--- how the last startup child of a slot came out, of those that were released
-abbrev pub came_of : List (PastChild MailTold) → Option Came
-came_of past = came_from None past
+-- how the last startup child and the last checkpointer came out, after a child that came out so
+abbrev pub with_came : Kind → Came → LastCame → LastCame
+with_came kind came before = record {
+  startup = last_with is_startup_child kind came before.startup;
+  checkpointer = last_with is_checkpointer kind came before.checkpointer;
+}
+
+-- after a child that ended so and left this mail
+abbrev pub came_by : Kind → Status → MailTold → LastCame → LastCame
+came_by kind status back before = with_came kind (came_out status back) before
+
+-- so it is of one kind after these children of a slot, where it was so before them
+abbrev pub came_from : (Kind → Bool) → Option Came → List (PastChild MailTold) → Option Came
+came_from is_it before [] = before
+came_from is_it before (child ∷ past) = came_from is_it (last_with is_it child.offer.kind (came_out child.status child.back) before) past
+
+-- how the last child of one kind came out, of those of a slot that were released
+abbrev pub came_of : (Kind → Bool) → List (PastChild MailTold) → Option Came
+came_of is_it past = came_from is_it None past
 
 -- the lost ones, with this child where its slot was active
 abbrev pub lost_with : ℕ → Bool → List ℕ → List ℕ

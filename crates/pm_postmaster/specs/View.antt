@@ -5,11 +5,11 @@ use Rattle.pm_worker.specs.{pm_board.declared.views.RosterView.RosterView, pm_ou
 use Rattle.pm_supervisor_journal.specs.{Stands.AtWork, Supervision.at_work}
 use Rattle.pm_server_lines.specs.Log.{LogView, view_of as log_view_of}
 use Rattle.pm_store_shared.specs.Told.{SharedModel}
-use Rattle.pm_postmaster.specs.declared.server.{Came.Came, Server.Server}
+use Rattle.pm_postmaster.specs.declared.{came.LastCame.LastCame, server.Server.Server}
 
 -- The supervisor at work and its board, its side of the store, its log, the links of its port and the lines of its console, its
--- clock, the children of this generation that ended while their slots were active, how the last startup child came out, and whether
--- links are asked for. The store was handed the disk.
+-- clock, the children of this generation that ended while their slots were active, how the last startup child and the last
+-- checkpointer came out, and whether links are asked for. The store was handed the disk.
 pub record View (D C : Type 0) : Type 0 where
   pub work : AtWork
   pub table : TableId
@@ -20,7 +20,7 @@ pub record View (D C : Type 0) : Type 0 where
   pub lines : Option (List (List ℕ))
   pub clock : C
   pub lost : List ℕ
-  pub came : Option Came
+  pub came : LastCame
   pub listens : Bool
 
 -- a server as it is now

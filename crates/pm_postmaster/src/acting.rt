@@ -1,10 +1,11 @@
 //! The acts of the machine.
 ghost use Rattle.std.specs.Prelude.{◌≡◌, ◌+◌, ℕ, [], false, true, Ok, OnOk};
 ghost use Rattle.pm_board_acts.specs.{pm_supervisor_journal.{Due.IsIdle, Standing.IsAtRest, Stands.IsSettled, declared.act.Act.TheVariants.Reset}, Sitting.AreReaped};
-ghost use Rattle.pm_postmaster.specs.{Acting.{Performs, end_by, failed_by}, Serving.{Goes, IsAlive}, View.view_of};
+ghost use Rattle.pm_postmaster.specs.{Acting.{Performs, after_crash, end_by, failed_by}, Serving.{Goes, IsAlive}, View.view_of};
 
+use crate::came::{Came, LastCame};
 use crate::laws::laws;
-use crate::server::{Came, Server};
+use crate::server::Server;
 use pm_disk::Disk;
 use pm_exit::Status;
 use pm_modes::Mode;
@@ -17,18 +18,32 @@ use pm_supervisor::Ending;
 use pm_supervisor_journal::{Act, GenerationsSpent};
 use std::sync::Wait;
 
-// How a server ends where its machine does, by how its last startup child came out.
-fn end_of(ending: Ending, came: Option<Came>) -> ServerEnd
+// How a server ends where its machine does, by how its last startup child and its last checkpointer came out.
+fn end_of(ending: Ending, came: LastCame) -> ServerEnd
     ensures { result ≡ end_by ending came }
 {
     match ending {
         Ending::Clean => ServerEnd::Clean,
-        Ending::AfterCrash => ServerEnd::Abnormal(Why::AfterCrash),
+        Ending::AfterCrash => crash_end(came.checkpointer),
         Ending::RestartOff => ServerEnd::Abnormal(Why::RestartOff),
-        Ending::StartupFailed => match came {
+        Ending::StartupFailed => match came.startup {
             Some(came) => failed_start(came),
             None => ServerEnd::NoMemory,
         },
+    }
+}
+
+// How a server ends after a crash whose last checkpointer came out so. A shutdown whose last checkpoint was short of memory is no
+// crash.
+fn crash_end(came: Option<Came>) -> ServerEnd
+    ensures { result ≡ after_crash came }
+{
+    match came {
+        Some(came) => match came.fault {
+            Some(StoreNo::NoMemory) => ServerEnd::NoMemory,
+            _ => ServerEnd::Abnormal(Why::AfterCrash),
+        },
+        None => ServerEnd::Abnormal(Why::AfterCrash),
     }
 }
 

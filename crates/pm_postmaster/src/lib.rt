@@ -9,6 +9,7 @@
 mod accepting;
 mod acting;
 mod asking;
+mod came;
 mod clearing;
 mod laws;
 mod looking;

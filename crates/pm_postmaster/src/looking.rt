@@ -3,12 +3,12 @@ ghost use Rattle.std.specs.Prelude.{◌≡◌, ◌+◌, ◌<◌, ℕ, false, tru
 ghost use Rattle.pm_board_acts.specs.{pm_supervisor_journal.Due.IsIdle, Board.seats_of, Sitting.AreReaped, pm_worker.Mails.mail_told};
 ghost use Rattle.pm_postmaster.specs.{Looking.{IsOpened, MayComeBack, TakesIn, fault_in}, Serving.{Goes, IsAlive}, View.view_of};
 
+use crate::came::Came;
 use crate::laws::laws;
-use crate::server::{Came, Server};
+use crate::server::Server;
 use pm_board::Released;
 use pm_board_acts::Looked;
 use pm_disk::Disk;
-use pm_exit::Kind;
 use pm_outside::{Chronicle, Clock, Console, Link, Port, Sink};
 use pm_query::{BookEntry, StoreNo};
 use pm_server::ServerEnd;
@@ -57,12 +57,11 @@ impl<
             self.lost.push_reserved(released.pid);
         }
         let fault = open_mail(&mut self.port, released.job);
-        if released.kind == Kind::Startup {
-            self.came = Some(Came {
-                status: released.status,
-                fault,
-            });
-        }
+        let came = Came {
+            status: released.status,
+            fault,
+        };
+        self.came = self.came.with(released.kind, came);
     }
 
     // Looks at a slot. Where its child has ended that is noted, and what it leaves is taken in.

@@ -3,9 +3,11 @@ ghost use Rattle.std.specs.Prelude.{◌≡◌, ◌≤◌, ◌+◌, [], IfSome, o
 ghost use Rattle.pm_server.specs.{pm_outside.Visits.no_visits, pm_server_lines.Log.view_of, Ends.end_line};
 ghost use Rattle.pm_postmaster.specs.{Outside.serve_view, Served.{IsEnded, IsServeRun, unmade_by}};
 
+use crate::came::LastCame;
 use crate::clearing::clear;
 use crate::laws::laws;
 use crate::server::Server;
+use pm_board::Roster;
 use pm_board_acts::Desk;
 use pm_disk::Disk;
 use pm_outside::{Chronicle, Clock, Console, Link, Port, Sink};
@@ -17,6 +19,7 @@ use pm_spawn::Spawner;
 use pm_state::PmEvent;
 use pm_store_remains::part;
 use pm_supervisor_journal::Supervision;
+use pm_worker::Mail;
 use std::alloc::Global;
 use std::sync::Wait;
 use std::thread::Threads;
@@ -40,10 +43,11 @@ fn ended<O: Sink>(log: Log<O>, end: ServerEnd) -> O
     log.into_sink()
 }
 
-/// How a server ended, and what it worked on.
-#[derive(Debug, Drop)]
+/// How a server ended, what it worked on, and the supervisor's side of its board, where a pool was made.
+#[derive(Drop)]
 pub struct Served<
-    P: Port,
+    L: Link + Drop,
+    P: Port<Link = L>,
     K: Console,
     O: Sink,
     D: Disk,
@@ -54,6 +58,7 @@ pub struct Served<
     pub end: ServerEnd,
     pub outside: Outside<P, O, D, C, J, B>,
     pub console: K,
+    pub board: Option<Roster<Mail<L>>>,
 }
 
 /// Runs a server over the disk until it ends: it accepts the port's links, each of which has a child in a thread of its own, does
@@ -69,7 +74,7 @@ pub fn supervise<S, R, L, P, K, O, D, C, J, B>(
     conf: &Conf,
     outside: Outside<P, O, D, C, J, B>,
     console: K,
-) -> Served<P, K, O, D, C, J, B>
+) -> Served<L, P, K, O, D, C, J, B>
 where
     S: Spawner<Runtime = R>,
     R: Threads + Wait + Copy + Drop + Send + 'static,
@@ -87,9 +92,9 @@ where
     requires book { IfSome (B.entries outside.book) (λ entries. entries ≡ []) }
     requires port { IfSome (P.visits outside.port) (λ visits. visits ≡ no_visits) }
     requires console { IfSome (K.lines console) (λ lines. lines ≡ []) }
-    ensures run { IsServeRun conf.now result.end (S.faults spawner.old) (S.faults spawner.new)
-        (serve_view K.Console outside console)
-        (serve_view K.Console result.outside result.console) }
+    ensures run { IsServeRun conf.now result.end (option_map (λ roster. roster.knows) result.board)
+        (serve_view K.Console (S.faults spawner.old) outside console)
+        (serve_view K.Console (S.faults spawner.new) result.outside result.console) }
     ensures rest { (result.outside.clock ≡ outside.clock)
         × (result.outside.seed ≡ outside.seed) }
 {
@@ -128,7 +133,10 @@ where
                 console,
                 clock,
                 lost,
-                came: None,
+                came: LastCame {
+                    startup: None,
+                    checkpointer: None,
+                },
                 listens: true,
                 hears: true,
             };
@@ -161,6 +169,7 @@ where
                 end,
                 outside,
                 console,
+                board: Some(roster),
             }
         }
         Err(unmade) => {
@@ -180,6 +189,7 @@ where
                 end,
                 outside,
                 console,
+                board: None,
             }
         }
     }

@@ -2,22 +2,15 @@
 
 ghost use Rattle.std.specs.Prelude.{◌≡◌, ℕ};
 
+use crate::came::LastCame;
 use pm_board_acts::Desk;
 use pm_disk::Disk;
-use pm_exit::Status;
 use pm_outside::{Chronicle, Clock, Console, Link, Port, Sink};
-use pm_query::{BookEntry, StoreNo};
+use pm_query::BookEntry;
 use pm_server_lines::Log;
 use pm_state::PmEvent;
 use pm_store_shared::Shared;
 use pm_worker::Mail;
-
-/// How a startup child came out: its status, and the refusal of the store that it told, if it did.
-#[derive(Clone, Copy, Debug, PartialEq, Eq)]
-pub(crate) struct Came {
-    pub(crate) status: Status,
-    pub(crate) fault: Option<StoreNo>,
-}
 
 /// A supervisor at work: its machine and its side of the board, its side of the store, its log, and where links and lines come
 /// from.
@@ -40,8 +33,7 @@ pub(crate) struct Server<
     pub(crate) clock: C,
     // The children of this generation that ended while their slots were active.
     pub(crate) lost: Vec<u32>,
-    // How the last startup child came out.
-    pub(crate) came: Option<Came>,
+    pub(crate) came: LastCame,
     // Links are asked for: the port's end hasn't come, and the last pid wasn't drawn.
     pub(crate) listens: bool,
     // Lines are asked for: the console's end hasn't come.

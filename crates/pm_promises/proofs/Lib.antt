@@ -1,3 +1,2 @@
 pub mod Wronging
-pub mod RestartsLaws
 pub mod StopsLaws

@@ -1,6 +1,6 @@
-//! What a user of a server counts on, in five definitions over what a run leaves: answers are right, what was acknowledged
-//! stays, a commit stands as a whole or not at all, no session is admitted from a crash until redo has ended, and a clean end
-//! leaves clean files.
+//! What a user of a server counts on, in definitions over what a run leaves: answers are right, what was acknowledged stays,
+//! a commit stands as a whole or not at all, and a clean end leaves clean files. That no session is admitted from a crash until
+//! redo has ended is said of the journal alone, in the supervisor's rules.
 #![tactic(auto)]
 
 mod laws;

@@ -1,6 +1,6 @@
 -- What holds of a book by those who noted its entries: the tokens, and the shared side.
 use Rattle.std.{proofs.Common.{◌≡◌, ◌≢◌, inl, inr, ℕ, ◌+◌, ◌<◌, ◌≤◌, Bool, true, false, List, [], ◌∷◌, ◌++◌, length, refl, sym, ap, subst, ◌∙◌, arith}, specs.{Prelude.{cond, nat_eq, ◌&&◌, ◌==◌}, List.AllByRecursion}}
-use Rattle.pm_serve_crew.{specs.{pm_session_answers.Own.{entries_by, is_by}, pm_supervisor_chain.Chain.{AttachOnce, InGeneration, IsAmong, attached_of, gone_from, kept_of, opened_of, redos_of}, pm_query.declared.book.BookEntry.{BookEntry, TheVariants.{Opened, Attached, Redone, Gone}}, pm_store_shared.{declared.views.Noted.Noted, Log.{AllBelow, Line, book_of, entries_of, is_own, noted as noted_at, placed, placed_rest}}}, proofs.OpenedLaws.opened_rest}
+use Rattle.pm_serve_crew.{specs.{pm_session_answers.Own.{entries_by, is_by}, pm_supervisor_chain.Chain.{AttachOnce, InGeneration, IsAmong, attached_of, gone_from, kept_of, opened_of, redos_of}, pm_query.declared.book.BookEntry.{BookEntry, TheVariants.{Opened, Attached, Redone, Gone}}, pm_store_shared.{declared.views.Noted.Noted, Log.{AllBelow, Line, book_of, entries_of, is_own, noted as noted_at, noted_behind, placed, placed_rest}}}, proofs.OpenedLaws.opened_rest}
 
 -- ---- all entries
 
@@ -28,23 +28,25 @@ module _ (Q : BookEntry → Type 0) (of_rest : (entry : BookEntry) → is_own en
 
 -- ---- the entries of the shared side
 
-gone_line : (n : ℕ) (entry : BookEntry) (log : List Line) → ((so_far : List ℕ) → gone_from so_far (book_of log) ≡ gone_from so_far (entries_of (placed_rest (n + 1) log)))
+gone_line : (before : List BookEntry) (entry : BookEntry) (log : List Line)
+    → ((so_far : List ℕ) → gone_from so_far (book_of log) ≡ gone_from so_far (entries_of (placed_rest (before ++ entry ∷ []) log)))
     → (so_far : List ℕ)
-    → gone_from so_far (entry ∷ book_of log) ≡ gone_from so_far (entries_of (cond (is_own entry) (placed_rest (n + 1) log) (noted_at n entry ∷ placed_rest (n + 1) log)))
-gone_line n (Opened generation) log rest so_far = ap (λ (l : List (List ℕ)). so_far ∷ l) (rest [])
-gone_line n (Gone pid) log rest so_far = rest (so_far ++ pid ∷ [])
-gone_line n _ log rest so_far = rest so_far
+    → gone_from so_far (entry ∷ book_of log)
+    ≡ gone_from so_far (entries_of (cond (is_own entry) (placed_rest (before ++ entry ∷ []) log) (noted_behind before entry ∷ placed_rest (before ++ entry ∷ []) log)))
+gone_line before (Opened generation) log rest so_far = ap (λ (l : List (List ℕ)). so_far ∷ l) (rest [])
+gone_line before (Gone pid) log rest so_far = rest (so_far ++ pid ∷ [])
+gone_line before _ log rest so_far = rest so_far
 
-gone_rest : (n : ℕ) (log : List Line) (so_far : List ℕ) → gone_from so_far (book_of log) ≡ gone_from so_far (entries_of (placed_rest n log))
-gone_rest n [] so_far = refl
-gone_rest n (l ∷ log) so_far = gone_line n l.entry log (λ s. gone_rest (n + 1) log s) so_far
+gone_rest : (before : List BookEntry) (log : List Line) (so_far : List ℕ) → gone_from so_far (book_of log) ≡ gone_from so_far (entries_of (placed_rest before log))
+gone_rest before [] so_far = refl
+gone_rest before (l ∷ log) so_far = gone_line before l.entry log (λ s. gone_rest (before ++ l.entry ∷ []) log s) so_far
 
 -- the book's generations, and who is gone before each, are as the shared side noted them
-pub opened_own : (own : List Noted) (book : List BookEntry) (log : List Line) → book_of log ≡ book → own ≡ placed_rest 0 log → opened_of (entries_of own) ≡ opened_of book
-opened_own own book log whole its = ap (λ (xs : List Noted). opened_of (entries_of xs)) its ∙ (sym (opened_rest 0 log) ∙ ap opened_of whole)
+pub opened_own : (own : List Noted) (book : List BookEntry) (log : List Line) → book_of log ≡ book → own ≡ placed_rest [] log → opened_of (entries_of own) ≡ opened_of book
+opened_own own book log whole its = ap (λ (xs : List Noted). opened_of (entries_of xs)) its ∙ (sym (opened_rest [] log) ∙ ap opened_of whole)
 
-pub gone_own : (own : List Noted) (book : List BookEntry) (log : List Line) → book_of log ≡ book → own ≡ placed_rest 0 log → gone_from [] (entries_of own) ≡ gone_from [] book
-gone_own own book log whole its = ap (λ (xs : List Noted). gone_from [] (entries_of xs)) its ∙ (sym (gone_rest 0 log []) ∙ ap (gone_from []) whole)
+pub gone_own : (own : List Noted) (book : List BookEntry) (log : List Line) → book_of log ≡ book → own ≡ placed_rest [] log → gone_from [] (entries_of own) ≡ gone_from [] book
+gone_own own book log whole its = ap (λ (xs : List Noted). gone_from [] (entries_of xs)) its ∙ (sym (gone_rest [] log []) ∙ ap (gone_from []) whole)
 
 -- ---- who attached
 

@@ -164,7 +164,7 @@ module _ (safely : RestartsSafely) (limits : Limits) (manner : Manner) (count : 
   book_within =
       let log = its.left.shuffle.log in
       let opened : opened_of book ≡ opened_of (entries_of own) =
-      ap opened_of (sym its.left.shuffle.book_is) ∙ opened_rest 0 log ∙ ap (λ (l : List Noted). opened_of (entries_of l)) (sym its.left.shuffle.own_list) in
+      ap opened_of (sym its.left.shuffle.book_is) ∙ opened_rest [] log ∙ ap (λ (l : List Noted). opened_of (entries_of l)) (sym its.left.shuffle.own_list) in
       let openings : length (opened_of book) ≡ length (opened_of (entries_of own)) = ap (λ (l : List ℕ). length l) opened in
       let few : length (opened_of (entries_of own)) ≤ length (resets_of J) + 1 = at_most (opened_of (entries_of own)) (resets_of J) its.renewals.generations in
       let books : generation_of book ≡ length (opened_of book) = generation_counted book in

@@ -1,6 +1,8 @@
+pub mod CancelsLaws
 pub mod EntriesLaws
 pub mod OpenedLaws
 pub mod PidsLaws
+pub mod RenewalsLaws
 pub mod TalksLaws
 pub mod UsesLaws
 pub use Rattle.pm_board_acts.proofs.pm_board as pm_board

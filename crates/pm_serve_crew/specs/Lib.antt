@@ -4,6 +4,7 @@ pub mod Renewals
 pub mod Pids
 pub mod Uses
 pub mod Talks
+pub mod Cancels
 pub use Rattle.pm_session_answers.specs.pm_facts as pm_facts
 pub use Rattle.pm_board_acts.specs.pm_exit as pm_exit
 pub use Rattle.pm_board_acts.specs.pm_modes as pm_modes

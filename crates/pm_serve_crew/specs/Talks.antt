@@ -1,5 +1,5 @@
 -- The connections of a server as their clients saw them, by the runs of its children.
-use Rattle.std.specs.Prelude.{◌≡◌, ◌<◌, ℕ, List, [], ◌∷◌}
+use Rattle.std.specs.{Prelude.{◌≡◌, ◌<◌, ℕ, List, [], ◌∷◌}, List.{flat_map, range_with_len}}
 use Rattle.pm_board_acts.specs.{pm_admit.declared.Cac.Cac, pm_keys.CancelKey.cancel_key, pm_worker.{declared.mail.{LinkTold.LinkTold, MailTold.MailTold}, Mails.traffic_in, Runs.Run}}
 use Rattle.pm_session_answers.specs.{pm_session.Session.status_of, Replies.Talk}
 use Rattle.pm_board_acts.specs.pm_worker.declared.mail.MailTold.TheVariants as mail
@@ -26,3 +26,7 @@ IsOrNot seed _ run talks Rest = Rest talks
 abbrev pub AreTalksOf : List ℕ → List Run → List Talk → Type 0
 AreTalksOf seed [] talks = talks ≡ []
 AreTalksOf seed (run ∷ runs) talks = IsOrNot seed run.child.offer.given run talks (AreTalksOf seed runs)
+
+-- the runs of so many slots, slot by slot
+abbrev pub runs_of : ℕ → (ℕ → List Run) → List Run
+runs_of count runs = flat_map runs (range_with_len 0 count)

@@ -1,6 +1,6 @@
 -- The laws: the first crash of a server's journal has a cause, and a server that ends after a crash has had one.
 use Rattle.std.{proofs.{Common.{◌≡◌, ◌⊎◌, inl, inr, ℕ, ◌+◌, ◌<◌, ◌≤◌, Bool, true, false, not, cond, ◌&&◌, ◌||◌, List, [], ◌∷◌, ◌++◌, Option, refl, sym, ap, subst, ◌∙◌, arith, append_assoc}, lemmas.{Bool.{both_ways, false≢true, true≢false}, List.Elements.recursion_from_All}}, specs.{Prelude.is_some, List.{AllByRecursion, fold}}}
-use Rattle.pm_serve_crew.{specs.{pm_facts.Lists.{each_first, each_last}, pm_exit.{declared.child.{Kind.Kind, Status.TheVariants.Code}, Ends.{is_exit_0, is_exit_1}}, pm_supervisor.{declared.{Limits.Limits, Reason.{Reason, TheVariants.{Crash, Stop}}}, Steps.is_normal}, pm_state.{declared.{action.Action.Action, event.PmEvent.PmEvent, machine.Machine.Machine}, Exits.is_shutdown, Laws.RestartsSafely, Promises.{has_act, is_ask_checkpoint, is_terminate}, Journal.{IsLegal, Replay, all_replayed, replay_begun, replayed}}, pm_child_life.Life.{Checkpoint, Quit, Told, was_told}, pm_supervisor_journal.Stands.any_moment, pm_board.{declared.views.{RosterStep.RosterStep, RosterView.RosterView}, Heard.IsKnownAtLast, Latches.{HeardRightly, NoticedBefore, times_given, times_sent}}, pm_query.declared.book.BookEntry.{BookEntry, TheVariants.Broke}, pm_segment.{Moves.IsShown, Unread.is_break}, pm_board_acts.Seating.{Ended, Move, Notes, Seating, board_steps, empty, entries_from, journal_of, seating_by, seating_from, seating_of, steps_from}, pm_store_shared.declared.views.Noted.Noted, pm_worker.{declared.mail.MailTold.MailTold, Runs.told_in}, Left.Manner, pm_supervisor_chain.Chain.IsPidOf}, proofs.{pm_board.BoardLaws.sent-append, pm_board_acts.FoldingLaws.{seating-append, steps-append}, PidsLaws.pids_in}}
+use Rattle.pm_serve_crew.{specs.{pm_facts.Lists.{each_first, each_last}, pm_exit.{declared.child.{Kind.Kind, Status.TheVariants.Code}, Ends.{is_exit_0, is_exit_1}}, pm_supervisor.{declared.{Limits.Limits, Reason.{Reason, TheVariants.{Crash, Stop}}}, Steps.is_normal}, pm_state.{declared.{action.Action.Action, event.PmEvent.PmEvent, machine.Machine.Machine}, Exits.is_shutdown, Laws.RestartsSafely, Promises.{has_act, is_ask_checkpoint, is_terminate}, Journal.{IsLegal, Replay, all_replayed, replay_begun, replayed}}, pm_child_life.Life.{Checkpoint, Quit, Told, was_told}, pm_supervisor_journal.Stands.any_moment, pm_board.{declared.views.{RosterStep.RosterStep, RosterView.RosterView}, Heard.IsKnownAtLast, Latches.{HeardRightly, NoticedBefore, doings_of, times_given, times_sent}}, pm_query.declared.book.BookEntry.{BookEntry, TheVariants.Broke}, pm_segment.{Moves.IsShown, Unread.is_break}, pm_board_acts.Seating.{Ended, Move, Notes, Seating, board_steps, empty, entries_from, journal_of, seating_by, seating_from, seating_of, steps_from}, pm_store_shared.declared.views.Noted.Noted, pm_worker.{declared.mail.MailTold.MailTold, Runs.told_in}, Left.Manner, pm_supervisor_chain.Chain.IsPidOf}, proofs.{pm_board.BoardLaws.sent-append, pm_board_acts.FoldingLaws.{seating-append, steps-append}, PidsLaws.pids_in}}
 use Rattle.pm_store_remains.{specs.{pm_disk.Cause.Rose, pm_server.Views.DiskView, Remains.Remains}, proofs.{pm_state.ReplayLaws.{acts_in, ends_at, legal_behind, legal_front}, pm_server.CalmLaws.{is_closing, shuts}}}
 use Rattle.pm_serve_crew.specs.pm_exit.declared.child.Class.TheVariants as class
 use Rattle.pm_serve_crew.specs.pm_exit.declared.child.Kind.TheVariants as kinds
@@ -249,8 +249,8 @@ module _ (safely : RestartsSafely) (limits : Limits) (manner : Manner) (count : 
     its = its_run manner count moves board own book u.board_is u.left u.once u.unbroken end e refl found.slot found.front found.rest found.is
 
     -- what its run heard was meant for its pid
-    heard : HeardRightly board.notes.steps (IsKnownAtLast board) end.pid its.run.child.offer.generation its.run.heard
-    heard = subst (λ (pid : ℕ). HeardRightly board.notes.steps (IsKnownAtLast board) pid its.run.child.offer.generation its.run.heard) (ap (λ (x : Ended). x.pid) its.ended) its.holds.1
+    heard : HeardRightly (doings_of board) (IsKnownAtLast board) (record its.run.child.offer { pid = end.pid }) its.run.heard
+    heard = subst (λ (pid : ℕ). HeardRightly (doings_of board) (IsKnownAtLast board) (record its.run.child.offer { pid = pid }) its.run.heard) (ap (λ (x : Ended). x.pid) its.ended) its.holds.1
 
     was_sent : (n : ℕ) → 0 < times_given n its.run.heard.given → 0 < times_sent n end.pid board.notes.steps
     was_sent n some = (let all : times_given n its.run.heard.given ≤ times_sent n end.pid board.notes.steps = heard.sent n in omega (arith, some, all))

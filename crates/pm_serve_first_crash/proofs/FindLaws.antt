@@ -1,6 +1,6 @@
 -- The move that notes the end of a child, and the run that this is the end of.
 use Rattle.std.{proofs.{Common.{◌≡◌, ◌≢◌, ◌⊎◌, inl, inr, ℕ, zero, suc, ◌<◌, Bool, true, false, cond, List, [], ◌∷◌, ◌++◌, Option, None, Some, get_or, length, map, nat_eq, refl, set, sym, ap, subst, ◌∙◌, arith}, lemmas.{Grind.flat_map-append, Option.slice_get-get_or, Bool.eq-eqb}}, specs.{Prelude.{slice_index_or, replicate}, List.{AllByRecursion, Contains, flat_map}}}
-use Rattle.pm_serve_crew.{specs.{pm_state.declared.event.PmEvent.PmEvent, pm_board.{declared.views.{Heard.Heard, PastChild.PastChild, RosterView.RosterView, Sight.TheVariants.Unused, SlotView.SlotView}, Heard.IsKnownAtLast, Latches.{EachHeard, HeardBy}, Places.{slot_at, slot_view}}, pm_supervisor_chain.Chain.IsPidOf, pm_supervisor_journal.declared.roll.Enrolled.Enrolled, pm_query.declared.book.BookEntry.BookEntry, pm_session_answers.Own.{is_by, entries_by as own_entries}, pm_board_acts.{Board.{ended_of, seat_at}, Seating.{Ended, Kill, Move, Nothing, Notes, PidsEnd, PortEnds, Reads, Request, Seating, Stop, asked_by, begun_at, begun_from, empty, ended_at, ended_by, ends, entries_by, entries_from, is_seated, seating_by, seating_from}, Standing.IsBoardOf}, pm_store_shared.declared.views.Noted.Noted, pm_worker.{declared.mail.MailTold.MailTold, Runs.{IsRun, Run}}, Left.{AreLeft, IsWorked, Manner}, Pids.{AreEntriesOf, AreUsedOnce}}, proofs.{pm_board_acts.{FoldingLaws.begun-append, EndedLaws.{Among, among_behind, among_front}}, EntriesLaws.entries_of_runs, PidsLaws.{begun_pids, pid_either, pids_of_past}}}
+use Rattle.pm_serve_crew.{specs.{pm_state.declared.event.PmEvent.PmEvent, pm_board.{declared.views.{Heard.Heard, PastChild.PastChild, RosterView.RosterView, Sight.TheVariants.Unused, SlotView.SlotView}, Heard.IsKnownAtLast, Latches.{EachHeard, HeardBy, doings_of}, Places.{slot_at, slot_view}}, pm_supervisor_chain.Chain.IsPidOf, pm_supervisor_journal.declared.roll.Enrolled.Enrolled, pm_query.declared.book.BookEntry.BookEntry, pm_session_answers.Own.{is_by, entries_by as own_entries}, pm_board_acts.{Board.{ended_of, seat_at}, Seating.{Ended, Kill, Move, Nothing, Notes, PidsEnd, PortEnds, Reads, Request, Seating, Stop, asked_by, begun_at, begun_from, empty, ended_at, ended_by, ends, entries_by, entries_from, is_seated, seating_by, seating_from}, Standing.IsBoardOf}, pm_store_shared.declared.views.Noted.Noted, pm_worker.{declared.mail.MailTold.MailTold, Runs.{IsRun, Run}}, Left.{AreLeft, IsWorked, Manner}, Pids.{AreEntriesOf, AreUsedOnce}}, proofs.{pm_board_acts.{FoldingLaws.begun-append, EndedLaws.{Among, among_behind, among_front}}, EntriesLaws.entries_of_runs, PidsLaws.{begun_pids, pid_either, pids_of_past}, CancelsLaws.each_heard}}
 use Rattle.pm_serve_crew.specs.pm_state.declared.event.PmEvent.TheVariants as entry
 use Rattle.pm_serve_first_crash.{specs.Causes.IsUnbroken, proofs.SendsLaws.{SitsNowhere, nowhere, pids_of_append, sat_or_began, seat_set}}
 
@@ -137,10 +137,6 @@ all_three : {X : Type 0} (P Q R : X → Type 0) (xs : List X) → AllByRecursion
 all_three P Q R [] p q r = tt
 all_three P Q R (x ∷ xs) p q r = ((p.0, q.0, r.0), all_three P Q R xs p.1 q.1 r.1)
 
-each_heard : (P : PastChild MailTold → Heard → Type 0) (runs : List Run) → EachHeard P (map (λ run. run.child) runs) (map (λ run. run.heard) runs) → AllByRecursion (λ run. P run.child run.heard) runs
-each_heard P [] each = tt
-each_heard P (run ∷ runs) each = (each.0, each_heard P runs each.1)
-
 unbroken_by : (pid : ℕ) (book : List BookEntry) → IsUnbroken book → IsUnbroken (own_entries pid book)
 unbroken_by pid [] all = tt
 unbroken_by pid (e ∷ book) all = by (is_by pid e) (unbroken_by pid book all.1)
@@ -162,7 +158,7 @@ module _ (manner : Manner) (count : ℕ) (moves : List Move) (board : RosterView
   -- what is known of a run
   abbrev pub IsKnownRun : Run → Type 0
   IsKnownRun run =
-      IsRun None manner.seed manner.limit manner.gives run × HeardBy board.notes.steps (IsKnownAtLast board) run.child run.heard × IsUnbroken run.noted
+      IsRun None manner.seed manner.limit manner.gives run × HeardBy (doings_of board) (IsKnownAtLast board) run.child run.heard × IsUnbroken run.noted
 
   module _ (end : Ended) (e : PmEvent) (is : ends e ≡ end ∷ []) (slot : ℕ) (front rest : List Move) (moves_are : moves ≡ front ++ Notes e slot ∷ rest) where
     in_past : Among end (map ended_of (slot_at board slot).past)
@@ -183,11 +179,11 @@ module _ (manner : Manner) (count : ℕ) (moves : List Move) (board : RosterView
     pub its_run : RunOf IsKnownRun (left.runs slot) end
     its_run =
         run_among IsKnownRun (left.runs slot) end (subst (λ (past : List (PastChild MailTold)). Among end (map ended_of past)) worked.children in_past)
-        (all_three (IsRun None manner.seed manner.limit manner.gives) (λ run. HeardBy board.notes.steps (IsKnownAtLast board) run.child run.heard) (λ run. IsUnbroken run.noted) (left.runs slot)
+        (all_three (IsRun None manner.seed manner.limit manner.gives) (λ run. HeardBy (doings_of board) (IsKnownAtLast board) run.child run.heard) (λ run. IsUnbroken run.noted) (left.runs slot)
         worked.each
-        (each_heard (HeardBy board.notes.steps (IsKnownAtLast board)) (left.runs slot)
-        (subst (λ (heard : List Heard). EachHeard (HeardBy board.notes.steps (IsKnownAtLast board)) (map (λ run. run.child) (left.runs slot)) heard) worked.heard
-        (subst (λ (past : List (PastChild MailTold)). EachHeard (HeardBy board.notes.steps (IsKnownAtLast board)) past worked.notes.heard) worked.children
+        (each_heard (HeardBy (doings_of board) (IsKnownAtLast board)) (left.runs slot)
+        (subst (λ (heard : List Heard). EachHeard (HeardBy (doings_of board) (IsKnownAtLast board)) (map (λ run. run.child) (left.runs slot)) heard) worked.heard
+        (subst (λ (past : List (PastChild MailTold)). EachHeard (HeardBy (doings_of board) (IsKnownAtLast board)) past worked.notes.heard) worked.children
         (left.sent slot (slot_at board slot).past worked.notes worked.gathered))))
         (none_broke book (left.runs slot) unbroken (entries_of_runs manner count board own book left once slot near)))
 

@@ -278,7 +278,7 @@ module _ (manner : Manner) (run : Run) where
   }
 
   -- a child that closes its worker
-  of_close : run.child.offer.kind ≡ kinds.DeadEnd → run ≡ close_run run.child.offer → Comes
+  of_close : run.child.offer.kind ≡ kinds.DeadEnd → run ≡ close_run run.slots run.child.offer → Comes
   of_close its is =
       fine kinds.DeadEnd its (ap (λ (r : Run). is_exit_0 r.child.status || is_exit_1 r.child.status) is, ap (λ (r : Run). r.child.was_active) is)
 

@@ -18,22 +18,24 @@ the_one e x (zero, is) = same_Some _ _ is
 the_one e x (suc i, is) = cc
 
 -- each entry is that one
-each_first : (joined : List Joined) (e : BookEntry) (log : List BookEntry) → AreUnused joined → EachOnce (owns joined) (noted 0 e ∷ []) log → (j : ℕ) (x : BookEntry) → slice_get log j ≡ Some x → (own : Bool) → is_own x ≡ own → noted 0 e ≡ noted j x
+each_first : (joined : List Joined) (e : BookEntry) (log : List BookEntry) → AreUnused joined → EachOnce (owns joined) (noted 0 e ∷ []) log → (j : ℕ) (x : BookEntry) → slice_get log j ≡ Some x → (own : Bool) → is_own x ≡ own → (0 ≡ j) × (e ≡ x)
 each_first joined e log unused once j x at true own =
     let found = once.found j x at own in
     absurd (none_has joined unused found.0 found.1 (noted j x) found.2 found.3)
-each_first joined e log unused once j x at false own = the_one e (noted j x) (once.shared j x at own)
+each_first joined e log unused once j x at false own =
+    let its = once.shared j x at own in
+    let is = the_one e its.0 its.1 in
+    (ap (λ (y : Noted). y.at) is ∙ its.2, ap (λ (y : Noted). y.entry) is ∙ its.3)
 
 apart : ◌≡◌ {A = ℕ} 0 1 → ⊥
 apart is = omega arith
 
-only_one : (e : BookEntry) (log : List BookEntry) → ((j : ℕ) (x : BookEntry) → slice_get log j ≡ Some x → noted 0 e ≡ noted j x) → (log ≡ []) ⊎ (log ≡ e ∷ [])
+only_one : (e : BookEntry) (log : List BookEntry) → ((j : ℕ) (x : BookEntry) → slice_get log j ≡ Some x → (0 ≡ j) × (e ≡ x)) → (log ≡ []) ⊎ (log ≡ e ∷ [])
 only_one e [] each = inl refl
-only_one e (x ∷ []) each = inr (ap (λ (y : Noted). y.entry ∷ []) (sym (each 0 x refl)))
-only_one e (x ∷ y ∷ log) each =
-    absurd (apart (ap (λ (z : Noted). z.at) (each 1 y refl)))
+only_one e (x ∷ []) each = inr (ap (λ (y : BookEntry). y ∷ []) (sym (each 0 x refl).1))
+only_one e (x ∷ y ∷ log) each = absurd (apart (each 1 y refl).0)
 
-not_none : (e : BookEntry) (log : List Line) → book_of log ≡ [] → noted 0 e ∷ [] ≡ placed_rest 0 log → ⊥
+not_none : (e : BookEntry) (log : List Line) → book_of log ≡ [] → noted 0 e ∷ [] ≡ placed_rest [] log → ⊥
 not_none e [] none is = cc
 not_none e (line ∷ log) none is = cc
 

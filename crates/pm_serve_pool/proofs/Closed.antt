@@ -42,6 +42,7 @@ module _ (manner : Manner) where
         count = refl;
         others = λ j behind. refl;
         board = λ count moves is. is;
+        limit = refl;
         sent = none_heard d shut;
         shut = shut;
       }
@@ -55,6 +56,8 @@ module _ (manner : Manner) where
         children = ap (λ x. x.past) same ∙ w.children;
         gathered = ap (λ x. x.sight) same ∙ w.gathered ∙ ap (λ x. Gathered x.past w.notes) (sym same);
         heard = w.heard;
+        looked = w.looked;
+        cancels = w.cancels;
         entries = w.entries;
       }
 
@@ -70,6 +73,7 @@ module _ (manner : Manner) where
         count = o.count ∙ a.count;
         others = λ j behind. o.others j (λ (same : j ≡ k). absurd (omega arith)) ∙ a.others j (omega arith);
         board = λ count moves is. o.board count moves (a.board count moves is);
+        limit = o.limit ∙ a.limit;
         sent = o.sent;
         shut = o.shut;
       }
@@ -96,7 +100,7 @@ module _ (manner : Manner) where
   closing_notes_nothing (run ∷ []) child closes is each =
       let same : child ≡ run.child = cc in
       let given : run.child.offer.given ≡ told.Close = ap (λ (x : PastChild MailTold). x.offer.given) (sym same) ∙ closes in
-      let does : run ≡ close_run run.child.offer = subst (λ (mail : MailTold). Does None manner.seed manner.limit manner.gives mail run) given each.0.does in
+      let does : run ≡ close_run run.slots run.child.offer = subst (λ (mail : MailTold). Does None manner.seed manner.limit manner.gives mail run) given each.0.does in
       append-nil run.noted ∙ ap (λ (r : Run). r.noted) does
   closing_notes_nothing (run ∷ run' ∷ runs) child closes is each = absurd (cc)
 

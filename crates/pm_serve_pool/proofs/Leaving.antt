@@ -1,5 +1,5 @@
 -- What the work of a slot leaves.
-use Rattle.std.{proofs.Common.{◌≡◌, ℕ, List, [], ◌++◌, ◌∷◌, map, ap, ◌∙◌, subst}, specs.{Prelude.None, List.AllByRecursion}}
+use Rattle.std.{proofs.Common.{◌≡◌, ℕ, List, [], ◌++◌, ◌∷◌, map, ap, ◌∙◌, subst}, specs.{Prelude.None, List.{AllByRecursion, flat_map}}}
 use Rattle.atomic_table.specs.Seated.{TableId}
 use Rattle.pm_serve_crew.specs.{pm_board.{Models.PostModel, declared.views.Work.TheVariants.Idle}, pm_store_shared.{Grows.Grew, Log.entries_of, Told.TokenModel}, pm_worker.{declared.{mail.MailTold.MailTold, tools.Tools.Tools}, Runs.{HasClosed, IsRun, Run, noted_by}}, Left.Manner}
 use Rattle.pm_serve_pool.{specs.{declared.plan.Terms.Terms, Plan.manner_of, Works.IsNewWork}, proofs.Moments.are_runs}
@@ -12,6 +12,8 @@ pub record Leaves {F : Type 0} (manner : Manner) (board home : TableId) (k : ℕ
   pub idle : post.knows.work ≡ Idle
   pub children : post.knows.past ≡ map (λ run. run.child) runs
   pub heard : post.knows.notes.heard ≡ map (λ run. run.heard) runs
+  pub looked : post.knows.notes.looked ≡ flat_map (λ run. run.looked) runs
+  pub cancels : post.knows.notes.cancels ≡ flat_map (λ run. run.made) runs
   pub home_is : token.table ≡ home
   pub number : token.number ≡ k
   pub entries : entries_of token.own ≡ noted_by runs
@@ -31,6 +33,8 @@ module _ {R C F S : Type 0} (gives : C → ℕ → Type 0) (terms : Terms C) (to
         idle = closed.worked.post.idle;
         children = closed.worked.post.past ∙ ap (λ p. p.knows.past ++ map (λ (run : Run). run.child) (closed.front ++ closed.last ∷ [])) new.post_is;
         heard = closed.worked.post.heard ∙ ap (λ p. p.knows.notes.heard ++ map (λ (run : Run). run.heard) (closed.front ++ closed.last ∷ [])) new.post_is;
+        looked = closed.worked.post.looked ∙ ap (λ p. p.knows.notes.looked ++ flat_map (λ (run : Run). run.looked) (closed.front ++ closed.last ∷ [])) new.post_is;
+        cancels = closed.worked.post.cancels ∙ ap (λ p. p.knows.notes.cancels ++ flat_map (λ (run : Run). run.made) (closed.front ++ closed.last ∷ [])) new.post_is;
         home_is = closed.worked.store.table ∙ new.home_is;
         number = closed.worked.store.number ∙ new.number;
         entries = ap entries_of (closed.worked.store.own ∙ ap (λ own. own ++ closed.worked.store.added) new.own) ∙ closed.worked.store.added_are;

@@ -3,7 +3,7 @@ use Rattle.std.{proofs.{Common.{◌≡◌, ◌≢◌, ◌⊎◌, inl, inr, ℕ, 
 use Rattle.atomic_table.specs.Seated.{TableId}
 use native.Mathlib.Decide.{ℕ_discrete}
 use Rattle.std.specs.List.{AllByRecursion}
-use Rattle.pm_serve_crew.specs.{pm_exit.declared.child.{Kind.{Kind, TheVariants.DeadEnd}, Status.Status}, pm_board.{declared.views.{Offer.Offer, PostView.PostView, RosterStep.TheVariants.{Assign, Release}, RosterView.RosterView, Sight.{Sight, TheVariants.{Unused, Opened, Assigned, Exited, Collected, Gathered}}, SlotView.SlotView}, Heard.HeardAsSent, Models.{HasAssigned, HasGathered, PostModel, SlotBecame}, Places.{AllReaped, IsReaped, slot_at}, Seats.is_gathered, Told.{past_child, released_slot, noted_release, noted_look}}, pm_supervisor_journal.{declared.roll.Enrolled.Enrolled, Stands.highest_pid}, pm_board_acts.Standing.IsFinal, pm_store_shared.Told.{SharedModel, TokenModel, shared_with}, pm_worker.declared.mail.MailTold.MailTold, Left.Manner}
+use Rattle.pm_serve_crew.specs.{pm_exit.declared.child.{Kind.{Kind, TheVariants.DeadEnd}, Status.Status}, pm_board.{declared.views.{Offer.Offer, PostView.PostView, RosterNotes.RosterNotes, RosterStep.TheVariants.{Assign, Release}, RosterView.RosterView, Sight.{Sight, TheVariants.{Unused, Opened, Assigned, Exited, Collected, Gathered}}, SlotView.SlotView}, Heard.HeardAsSent, Models.{HasAssigned, HasGathered, PostModel, SlotBecame}, Places.{AllReaped, IsReaped, slot_at}, Seats.is_gathered, Told.{past_child, released_slot, noted_release, noted_look, with_slot}}, pm_supervisor_journal.{declared.roll.Enrolled.Enrolled, Stands.highest_pid}, pm_board_acts.Standing.IsFinal, pm_store_shared.Told.{SharedModel, TokenModel, shared_with}, pm_worker.declared.mail.MailTold.MailTold, Left.Manner}
 use Rattle.pm_serve_crew.specs.pm_worker.declared.mail.MailTold.TheVariants as told
 use Rattle.pm_serve_pool.{specs.Closing.{HasClosedOne, HasHadLast, IsReleased, IsShut, closing_pid}, proofs.{Boards.keeps_board, Leaving.Leaves}}
 
@@ -25,6 +25,10 @@ all_reaped k d shut j near = reaped_so d.notes.last_connection (slot_at d j) (sl
     so (inl before) = inl (shut.gathered j before)
     so (inr behind) = inr (shut.free j behind)
 
+-- another slot, and other notes, leave the limit of sessions
+same_limit : (before after : RosterView MailTold) (k : ℕ) (x : SlotView MailTold) (notes : RosterNotes) → after ≡ with_slot before k x notes → after.session_limit ≡ before.session_limit
+same_limit before after k x notes is = ap (λ (d : RosterView MailTold). d.session_limit) is
+
 -- ---- looks
 
 -- its child was found running so far, and nothing else has changed
@@ -35,9 +39,10 @@ pub record IsWatched (k : ℕ) (o : Offer MailTold) (before now : RosterView Mai
   pub past : (slot_at now k).past ≡ (slot_at before k).past
   pub steps : now.notes.steps ≡ before.notes.steps
   pub last_pid : now.notes.last_pid ≡ before.notes.last_pid
+  pub limit : now.session_limit ≡ before.session_limit
 
 pub watched_first : (k : ℕ) (o : Offer MailTold) (d : RosterView MailTold) → (slot_at d k).sight ≡ Assigned o → IsWatched k o d d
-watched_first k o d sits = record { count = refl; others = λ j other. refl; sight = sits; past = refl; steps = refl; last_pid = refl }
+watched_first k o d sits = record { count = refl; others = λ j other. refl; sight = sits; past = refl; steps = refl; last_pid = refl; limit = refl }
 
 -- one look more
 pub watched_on : (k : ℕ) (o : Offer MailTold) (before now after : RosterView MailTold) (word last : ℕ) → IsWatched k o before now
@@ -50,6 +55,7 @@ watched_on k o before now after word last w b =
       past = ap (λ x. x.past) b.here ∙ w.past;
       steps = ap (λ n. n.steps) b.notes_are ∙ w.steps;
       last_pid = ap (λ n. n.last_pid) b.notes_are ∙ w.last_pid;
+      limit = same_limit now after _ _ _ b.whole ∙ w.limit;
     }
 
 -- the look that found it exited, and the release after it
@@ -66,6 +72,7 @@ released_at_last k o before now found after word status active back w f b =
       here = b.here ∙ ap (λ xs. record { past = xs ++ past_child o status active back ∷ []; sight = Unused; found_running = 0 }) past;
       steps = ap (λ n. n.steps) b.notes_are ∙ ap (λ xs. xs ++ Release o.pid o.kind o.generation ∷ []) (ap (λ n. n.steps) f.notes_are ∙ w.steps);
       last_pid = ap (λ n. n.last_pid) b.notes_are ∙ ap (λ n. n.last_pid) f.notes_are ∙ w.last_pid;
+      limit = same_limit found after _ _ _ b.whole ∙ same_limit now found _ _ _ f.whole ∙ w.limit;
     }
 
 -- ---- the whole
@@ -129,6 +136,8 @@ module _ (k : ℕ) (d assigned released gathered : RosterView MailTold) (a : Has
               children = ap (λ x. x.past) g.here ∙ sym same ∙ l.children;
               gathered = ap (λ x. x.sight) g.here ∙ ap (λ xs. Gathered xs post.knows.notes) (same ∙ sym (ap (λ x. x.past) g.here));
               heard = l.heard;
+              looked = l.looked;
+              cancels = l.cancels;
               entries = l.entries;
             };
         last = last_of_one post.knows g;
@@ -137,6 +146,7 @@ module _ (k : ℕ) (d assigned released gathered : RosterView MailTold) (a : Has
         board =
             keeps_board k d gathered (Assign k (a.0).pid (a.0).kind (a.0).generation ∷ Release (a.0).pid (a.0).kind (a.0).generation ∷ []) (steps_of_one post.knows g)
             (final_steps k (a.0).pid (a.0).kind (a.0).generation (ap (λ (x : Offer MailTold). x.kind) a.1)) (last_of_one post.knows g) (ap (λ (x : Offer MailTold). x.kind) (r.is ∙ a.1)) others;
+        limit = same_limit released gathered _ _ _ g.whole ∙ r.limit ∙ same_limit d assigned _ _ _ a.2.whole;
         sent = heard;
         shut =
             shut_more k d gathered shut (ap (λ x. is_gathered x.sight) g.here) others

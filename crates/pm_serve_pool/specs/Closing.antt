@@ -29,6 +29,7 @@ pub record IsReleased (k : ℕ) (o : Offer MailTold) (before after : RosterView 
   pub here : slot_at after k ≡ slot_view ((slot_at before k).past ++ child ∷ []) Unused
   pub steps : after.notes.steps ≡ before.notes.steps ++ Release o.pid o.kind o.generation ∷ []
   pub last_pid : after.notes.last_pid ≡ before.notes.last_pid
+  pub limit : after.session_limit ≡ before.session_limit
 
 -- whatever the moves were, a board that is theirs is so still
 abbrev pub KeepsBoard : RosterView MailTold → RosterView MailTold → Type 0
@@ -52,6 +53,7 @@ pub record HasClosedOne {F : Type 0} (manner : Manner) (k : ℕ) (before after :
   pub count : length after.slots ≡ length before.slots
   pub others : (j : ℕ) → j ≢ k → slot_at after j ≡ slot_at before j
   pub board : KeepsBoard before after
+  pub limit : after.session_limit ≡ before.session_limit
   pub sent : HeardAsSent after
   pub shut : IsShut (k + 1) after
 
@@ -66,5 +68,6 @@ pub record AreClosed {F : Type 0} (manner : Manner) (n : ℕ) (before after : Ro
   pub count : length after.slots ≡ length before.slots
   pub others : (j : ℕ) → n ≤ j → slot_at after j ≡ slot_at before j
   pub board : KeepsBoard before after
+  pub limit : after.session_limit ≡ before.session_limit
   pub sent : HeardAsSent after
   pub shut : IsShut n after

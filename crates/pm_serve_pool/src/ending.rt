@@ -30,6 +30,7 @@ impl<
         requires shared { (shared.tokens ≡ slots_of self.terms.plan) × (shared.joined ≡ []) }
         ensures table { roster.new.table ≡ roster.old.table }
         ensures board { KeepsBoard roster.old.knows roster.new.knows }
+        ensures limit { roster.new.knows.session_limit ≡ roster.old.knows.session_limit }
         ensures last { (k : ℕ) → k < slots_of self.terms.plan
             → HasHadLast k roster.old.knows roster.new.knows }
         ensures left { IfSome shared.first (λ first. (log : List BookEntry)

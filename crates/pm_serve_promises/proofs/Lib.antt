@@ -1,2 +1,4 @@
+pub mod Blaming
+pub mod Linking
 pub mod Promising
 pub mod PromisesLaws

@@ -1,3 +1,4 @@
-pub mod Promises
+pub mod Runs
+pub mod Links
+pub mod Crashes
 pub mod PromisedServe
-pub mod BlamedServe

@@ -1,34 +1,26 @@
 -- A run of a server of many connections that keeps what a user counts on.
-use Rattle.std.specs.Prelude.{◌≡◌, ◌⊎◌, ℕ, List, Some}
-use Rattle.pm_server.specs.{pm_disk.Files.Files, pm_query.{declared.book.BookEntry.BookEntry, Book.Base}, Outside.OutsideView, declared.{conf.Conf.Conf, end.ServerEnd.ServerEnd}, pm_state.{declared.event.PmEvent.PmEvent, Restarts.RestartsInOrder}}
-use Rattle.pm_postmaster.specs.{Outside.ServeView, Served.{IsServed, IsUnmade, slots_by}, pm_board_acts.{Chained.IsChainedLoosely, Seating.journal_of}}
-use Rattle.pm_serve_promises.specs.Promises.{Crew, IsPromised}
+use Rattle.std.specs.{Prelude.{List, Option, None, Some}, List.AllByRecursion}
+use Rattle.pm_server.specs.{pm_disk.Cause.Rose, pm_query.{declared.book.BookEntry.BookEntry, Book.Base}, declared.{conf.Conf.Conf, end.ServerEnd.ServerEnd}, pm_state.Restarts.RestartsInOrder}
+use Rattle.pm_promises.specs.{pm_session_answers.Replies.Talk, Promises.IsPromised, Runs.IsTold}
+use Rattle.pm_postmaster.specs.{pm_board.declared.views.RosterView.RosterView, pm_board_acts.Chained.IsChainedLoosely, pm_worker.declared.mail.MailTold.MailTold, Links.accepted_in, Outside.ServeView, Served.{IsServed, IsUnmade}}
+use Rattle.pm_serve_first_crash.specs.{pm_serve_crew.Talks.AreTalksOf, Crashes.IsUnasked}
+use Rattle.pm_serve_promises.specs.{Crashes.CrashesForCause, Links.AreOverLinks, Runs.{journal_in, run_view, runs_in}}
 
--- at the end the book tells, and the disk tells its files
-pub record IsTold (now : OutsideView) (book : List BookEntry) : Type 0 where
-  pub book_is : now.book ≡ Some book
-  pub files : Files
-  pub files_are : now.disk.files ≡ Some files
-
-module _ {conf : Conf} {end : ServerEnd} {before now : ServeView} (run : IsServed conf end before now) where
-  -- the journal of the run
-  abbrev pub journal_in : List PmEvent
-  journal_in = journal_of (slots_by conf.limits) run.moves
-
-  -- its workers
-  abbrev pub crew_in : Crew
-  crew_in = record { count = slots_by conf.limits; seed = before.outside.seed; runs = run.left.runs }
-
--- A run whose pool was made keeps them where book and disk tell. What the journal says, and the chain of journal and book, need neither.
-pub record IsPromisedRun (conf : Conf) (end : ServerEnd) (before now : ServeView) : Type 0 where
-  pub run : IsServed conf end before now
+-- A run whose pool was made keeps all of them where book and disk tell. Nothing else needs that.
+pub record IsPromisedRun (conf : Conf) (end : ServerEnd) (board : RosterView MailTold) (before now : ServeView) : Type 0 where
+  pub run : IsServed conf end board before now
+  -- from an abnormal exit until redo has ended no session is admitted
   pub restarts : RestartsInOrder conf.limits (journal_in run)
   pub chained : IsChainedLoosely (journal_in run) run.book
-  pub promised :
-      (book : List BookEntry) → IsTold now.outside book
-      → (base : Base) × IsPromised conf.limits (journal_in run) base book (crew_in run) before.outside.disk now.outside.disk
+  -- where nobody asked for a kill or to stop at once, and the disk didn't fail
+  pub crashes : AllByRecursion IsUnasked (journal_in run) → ¬ (Rose before.outside.disk.faults now.outside.disk.faults) → CrashesForCause run
+  -- its connections as their clients saw them, each over the link that it was accepted with
+  pub talks : List Talk
+  pub are_talks : AreTalksOf before.outside.seed (runs_in run) talks
+  pub links : AreOverLinks (accepted_in (journal_in run)) now.outside.visits talks
+  pub promised : (book : List BookEntry) → IsTold now.outside book → (base : Base) × IsPromised base (run_view run talks book)
 
 -- Where no pool was made nothing was answered, and nothing is promised but that.
-abbrev pub IsPromisedServe : Conf → ServerEnd → (refused_before refused_now : ℕ) → (before now : ServeView) → Type 0
-IsPromisedServe conf end refused_before refused_now before now =
-    IsPromisedRun conf end before now ⊎ IsUnmade end refused_before refused_now before now
+abbrev pub IsPromisedServe : Conf → ServerEnd → Option (RosterView MailTold) → (before now : ServeView) → Type 0
+IsPromisedServe conf end (Some board) before now = IsPromisedRun conf end board before now
+IsPromisedServe conf end None before now = IsUnmade end before now

@@ -1,6 +1,6 @@
 //! A whole run of a server of many connections, with what a user counts on.
 
-ghost use Rattle.std.specs.Prelude.{◌≡◌, ◌≤◌, ◌+◌, [], IfSome};
+ghost use Rattle.std.specs.Prelude.{◌≡◌, ◌≤◌, ◌+◌, [], IfSome, option_map};
 ghost use Rattle.pm_postmaster.specs.{pm_outside.Visits.no_visits, Outside.serve_view};
 ghost use Rattle.pm_serve_promises.specs.PromisedServe.{IsPromisedServe};
 
@@ -24,7 +24,7 @@ pub fn serve_as_promised<S, R, L, P, K, O, D, C, J, B>(
     conf: &Conf,
     outside: Outside<P, O, D, C, J, B>,
     console: K,
-) -> Served<P, K, O, D, C, J, B>
+) -> Served<L, P, K, O, D, C, J, B>
 where
     S: Spawner<Runtime = R>,
     R: Threads + Wait + Copy + Drop + Send + 'static,
@@ -42,9 +42,10 @@ where
     requires book { IfSome (B.entries outside.book) (λ entries. entries ≡ []) }
     requires port { IfSome (P.visits outside.port) (λ visits. visits ≡ no_visits) }
     requires console { IfSome (K.lines console) (λ lines. lines ≡ []) }
-    ensures run { IsPromisedServe conf.now result.end (S.faults spawner.old)
-        (S.faults spawner.new) (serve_view K.Console outside console)
-        (serve_view K.Console result.outside result.console) }
+    ensures run { IsPromisedServe conf.now result.end
+        (option_map (λ roster. roster.knows) result.board)
+        (serve_view K.Console (S.faults spawner.old) outside console)
+        (serve_view K.Console (S.faults spawner.new) result.outside result.console) }
     ensures rest { (result.outside.clock ≡ outside.clock)
         × (result.outside.seed ≡ outside.seed) }
 {

@@ -3,8 +3,8 @@ use Rattle.std.{proofs.{Common.{◌≡◌, inl, inr, ℕ, zero, suc, ◌+◌, Li
 use Rattle.pm_query.{specs.{declared.book.BookEntry.BookEntry, Calls.User}, proofs.NotedLaws.GoesInTurn}
 use Rattle.pm_child_life.{specs.{Life.{Told, Cancel}, Attention.{Attention, Hears, IsAttentive, was_given}}, proofs.AttentionLaws.{hears_none, hears_both, hears_fewer, since_later}}
 use Rattle.pm_wire.specs.{Outgoing.Outgoing, Backend.BackMessage, Frontend.{FrontMessage, Query, BadQuery, LongQuery, Terminate, Extended, Other, IsFront, IsUndecided, BeginsBadly}}
-use Rattle.pm_session_exchange.{specs.{declared.{ending.Cause.{Cause, TheVariants.{Terminated, Cancelling, LinkEnded, LinkFailed, TimedOut, PacketRefused, MessageRefused, DecisionRefused, GateRefused, ShortOfMemory, Panicked, ToldToTerminate, ToldToQuit, Killed, Overtaken}}, release.Answer.Answer}, Exchange.{LinkView, Passes, CutsOff}, Sent.{Turn, bytes_of, turn_messages}, Queries.{TurnNotes, Sleeps, IsCancelledTurn}, Moments.{Moment, moment, IsBreak}, Answers.{EndNotes, turn_of, piece_of, IsFit}, Attention.ends_of}, proofs.{LinkLaws.{passes_none, passes_both}, SentLaws.{bytes_of-append, bytes_of-none}}}
-use Rattle.pm_session.{specs.{Session.{AllNotes, AllSleep, EndsAt, MayPassOver, pieces, query_bytes}, Conversation.Conversed, Turns.{desk, Says, Answered, BrokenOff, ReplyGoes, Refuses, MessageGoes, Conversing, Converses}, Heeding.AllRead}, proofs.{Attentions.since_given, Heeding.{heed_none, heed_then, turn_heeds}}}
+use Rattle.pm_session_exchange.{specs.{declared.{ending.Cause.{Cause, TheVariants.{Terminated, Cancelling, LinkEnded, LinkFailed, TimedOut, PacketRefused, MessageRefused, DecisionRefused, GateRefused, ShortOfMemory, Panicked, ToldToTerminate, ToldToQuit, Killed, Overtaken}}, release.Answer.Answer}, Exchange.{LinkView, Passes, CutsOff}, Sent.{Turn, bytes_of, turn_messages}, Queries.{TurnNotes, Sleeps, SleptWhole, IsCancelledTurn}, Moments.{Moment, moment, IsBreak}, Answers.{EndNotes, turn_of, piece_of, IsFit, SleepsUncancelled}, Attention.ends_of}, proofs.{LinkLaws.{passes_none, passes_both}, SentLaws.{bytes_of-append, bytes_of-none}}}
+use Rattle.pm_session.{specs.{Session.{AllNotes, AllSleep, EndsAt, MayPassOver, pieces, query_bytes}, Conversation.Conversed, Turns.{desk, Says, Answered, BrokenOff, ReplyGoes, Refuses, MessageGoes, Conversing, Converses}, Heeding.AllRead}, proofs.{Attentions.since_given, Heeding.{heed_none, heed_then, turn_heeds, uncancelled_later}}}
 
 -- ---- lists of turns
 
@@ -307,7 +307,7 @@ turn_taken notes gives user text spelled rest unread link_before link_now store_
   hears = hears_both 1 0 child_before child_between child_now heard took.hears;
   read = (took.read, tt);
   slept = ((refl, front.1, front.2), took.slept, tt);
-  heeded = turn_heeds took.turn 0 child_before child_between child_now heard attentive none took.hears (λ e. took.cancelled (subst IsCancelledTurn (sym e) tt));
+  heeded = turn_heeds took.turn 0 child_before child_between child_now heard attentive none took.hears (λ e. took.cancelled (subst IsCancelledTurn (sym e) tt)) took.uncancelled;
   cancelled = λ turn among is_cancelled. one_cancelled took.turn turn child_now (λ is. since_given 0 Cancel child_between.told child_now.told took.hears.asked (took.cancelled is)) among is_cancelled;
 }
 
@@ -336,7 +336,7 @@ turn_cut notes gives user cause text missing spelled rest unread link_before lin
   hears = hears_both 1 0 child_before child_between child_now heard took.hears;
   read = (took.read, tt);
   slept = ((refl, front.1, front.2), took.slept, tt);
-  heeded = turn_heeds took.turn 0 child_before child_between child_now heard attentive none took.hears (λ e. took.cancelled (subst IsCancelledTurn (sym e) tt));
+  heeded = turn_heeds took.turn 0 child_before child_between child_now heard attentive none took.hears (λ e. took.cancelled (subst IsCancelledTurn (sym e) tt)) took.uncancelled;
   cancelled = λ turn among is_cancelled. one_cancelled took.turn turn child_now (λ is. since_given 0 Cancel child_between.told child_now.told took.hears.asked (took.cancelled is)) among is_cancelled;
 }
 
@@ -417,9 +417,9 @@ said_whole text answer before now stood went missing empty fit whole =
 -- its answer was sent, or a front of it
 pub replied : {S : Type 0} (notes : List BookEntry → S → S → Type 0) (gives : ℕ → Type 0) (user : User) (text : List ℕ) (answer : Answer) (result : Result (Unit {0}) Cause) (link_before link_now : LinkView) (store_before store_now : S) (child_before child_between child_now : Attention)
     (outbox_before outbox_now : Outgoing) → outbox_before.bytes ≡ [] → (entries : List BookEntry) × notes entries store_before store_now × TurnNotes user.pid text (turn_of answer) entries → IsFit text answer child_before.told child_between.told → Sleeps gives text (turn_of answer)
-    → Hears 0 child_before child_between → Says result (piece_of answer) (desk link_before outbox_before child_between) (desk link_now outbox_now child_now) → OnOk result (outbox_now.bytes ≡ [])
+    → (SleptWhole (turn_of answer) → SleepsUncancelled child_before.told child_between.told) → Hears 0 child_before child_between → Says result (piece_of answer) (desk link_before outbox_before child_between) (desk link_now outbox_now child_now) → OnOk result (outbox_now.bytes ≡ [])
     → ReplyGoes notes gives user text result (moment link_before [] store_before child_before) (moment link_now [] store_now child_now)
-replied notes gives user text answer (Ok done) link_before link_now store_before store_now child_before child_between child_now outbox_before outbox_now empty (entries, noted, means) fit slept heard says emptied = record {
+replied notes gives user text answer (Ok done) link_before link_now store_before store_now child_before child_between child_now outbox_before outbox_now empty (entries, noted, means) fit slept uncancelled heard says emptied = record {
   turn = turn_of answer;
   noted = entries;
   went = says.went;
@@ -431,8 +431,9 @@ replied notes gives user text answer (Ok done) link_before link_now store_before
   read = fit.read;
   slept = slept;
   cancelled = λ is. since_later 0 Cancel child_before.told child_between.told child_now.told (fit.cancelled is) says.hears.asked says.hears.gained;
+  uncancelled = λ whole. uncancelled_later 0 child_before.told child_between.told child_now.told (uncancelled whole) says.hears.asked says.hears.gained;
 }
-replied notes gives user text answer (Err cause) link_before link_now store_before store_now child_before child_between child_now outbox_before outbox_now empty (entries, noted, means) fit slept heard says emptied = inl (
+replied notes gives user text answer (Err cause) link_before link_now store_before store_now child_before child_between child_now outbox_before outbox_now empty (entries, noted, means) fit slept uncancelled heard says emptied = inl (
   says.missing,
   says.left.0,
   says.left.1,
@@ -448,6 +449,7 @@ replied notes gives user text answer (Err cause) link_before link_now store_befo
     read = fit.read;
     slept = slept;
     cancelled = λ is. since_later 0 Cancel child_before.told child_between.told child_now.told (fit.cancelled is) says.hears.asked says.hears.gained;
+    uncancelled = λ whole. uncancelled_later 0 child_before.told child_between.told child_now.told (uncancelled whole) says.hears.asked says.hears.gained;
   },
 )
 

@@ -1,6 +1,6 @@
 -- A query step by step: what is answered and noted for it, what its client is sent, and what waiting for it can give.
 use Rattle.std.specs.{Prelude.{◌≡◌, ◌⊎◌, ◌≤◌, ◌++◌, ℕ, List, [], length, Contains, Result, Ok, Err, IfErr, false}, List.flat_map}
-use Rattle.pm_session_exchange.specs.{pm_query.{declared.book.BookEntry.BookEntry, Calls.{User, user_of}}, pm_child_life.{Life.Cancel, Attention.{Attention, Hears, GivenSince, was_given}}, Room.IsQueryString, declared.ending.Cause.Cause, Exchange.{LinkView, CutsOff, Passes, Holds}, Queries.{IsReadAs, TurnNotes, IsCancelledTurn, Sleeps}, Sent.{Turn, bytes_of, turn_messages}, Moments.{Moment, moment, ShowsCause, IsBreak}, Answers.EndNotes}
+use Rattle.pm_session_exchange.specs.{pm_query.{declared.book.BookEntry.BookEntry, Calls.{User, user_of}}, pm_child_life.{Life.Cancel, Attention.{Attention, Hears, GivenSince, was_given}}, Room.IsQueryString, declared.ending.Cause.Cause, Exchange.{LinkView, CutsOff, Passes, Holds}, Queries.{IsReadAs, TurnNotes, IsCancelledTurn, SleptWhole, Sleeps}, Sent.{Turn, bytes_of, turn_messages}, Moments.{Moment, moment, ShowsCause, IsBreak}, Answers.{EndNotes, SleepsUncancelled}}
 use Rattle.pm_session_exchange.specs.pm_query.declared.store.Store as Store
 use Rattle.pm_wire.specs.{Outgoing.Outgoing, Backend.BackMessage, Frontend.{FrontMessage, IsFront, Query as IsQuery}}
 use Rattle.pm_session.specs.{Heeding.{HeedInTurn, AllRead}, Session.{AllNotes, EndsAt, MayPassOver, AllSleep, pieces, query_bytes}, Conversation.Conversed}
@@ -52,6 +52,7 @@ pub record Answered {S : Type 0} (notes : List BookEntry → S → S → Type 0)
   pub read : IsReadAs text turn
   pub slept : Sleeps gives text turn
   pub cancelled : IsCancelledTurn turn → GivenSince Cancel before.child.told now.child.told
+  pub uncancelled : SleptWhole turn → SleepsUncancelled before.child.told now.child.told
 
 -- it was not, and nothing was sent
 pub record BrokenOff {S : Type 0} (notes : List BookEntry → S → S → Type 0) (user : User) (text : List ℕ) (cause : Cause) (before now : Moment S) : Type 0 where

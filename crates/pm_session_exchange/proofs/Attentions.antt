@@ -11,6 +11,7 @@ dropped (Some told) child standing stands = record {
   terminate = stands.terminate;
   cancel = λ e. absurd (true≢false (sym e));
   checkpoint = stands.checkpoint;
+  asked = stands.asked;
 }
 
 -- a cancel that is heeded or dropped stands no more

@@ -17,7 +17,7 @@ cancel_attends pid key (Some told) child standing = record {
   asked = (omega arith, refl);
   child = refl;
   given = λ signal given. given;
-  stands = λ stands. record { kill = stands.kill; quit = stands.quit; quits = stands.quits; terminate = stands.terminate; cancel = stands.cancel; checkpoint = stands.checkpoint };
+  stands = λ stands. record { kill = stands.kill; quit = stands.quit; quits = stands.quits; terminate = stands.terminate; cancel = stands.cancel; checkpoint = stands.checkpoint; asked = stands.asked };
 }
 
 -- a cancel that was asked for changes nothing else

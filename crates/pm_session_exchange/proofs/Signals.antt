@@ -1,7 +1,7 @@
 -- Signals that end a session or cancel a query.
-use Rattle.std.proofs.{Common.{◌≡◌, ◌∙◌, ℕ, inl, inr, Bool, true, false, Option, None, Some, sym, subst}, lemmas.Bool.true≢false}
-use Rattle.pm_child_life.specs.{pm_supervisor.declared.Reason.Reason, Life.Cancel, Attention.{Attention, Hears, GivenSince, IsAttentive}}
-use Rattle.pm_session_exchange.{specs.{declared.ending.Cause.{Cause, TheVariants.{ToldToTerminate, ToldToQuit, Killed}}, Attention.{ends_by, ends_of}, Moments.{IsSignal, IsHeeded, IsWaitEnd}}, proofs.MomentLaws.told_cause}
+use Rattle.std.proofs.{Common.{◌≡◌, ◌∙◌, ℕ, inl, inr, Bool, true, false, Option, None, Some, Result, Ok, Err, sym, subst}, lemmas.Bool.true≢false}
+use Rattle.pm_child_life.specs.{pm_supervisor.declared.Reason.Reason, Life.Cancel, Attention.{Attention, Hears, GivenSince, GivenNoMore, IsAttentive}}
+use Rattle.pm_session_exchange.{specs.{declared.{ending.Cause.{Cause, TheVariants.{ToldToTerminate, ToldToQuit, Killed}}, release.Answer.Answer}, Attention.{ends_by, ends_of}, Moments.{IsSignal, IsHeeded, IsWaitEnd}, Answers.AnswerUncancelled}, proofs.MomentLaws.told_cause}
 
 ended_by : (kill : Bool) (quit : Option Reason) (terminate : Bool) (cause : Cause) → ends_by kill quit terminate ≡ Some cause → IsSignal cause
 ended_by true quit terminate cause is = let same : Killed ≡ cause = cc in subst IsSignal same tt
@@ -34,3 +34,8 @@ wait_told at cause attentive is = (
 -- a cancel that stands, where none stood, was given since
 pub cancel_since : (before now : Attention) (k : ℕ) → before.standing.cancel ≡ false → Hears k before now → now.standing.cancel ≡ true → GivenSince Cancel before.told now.told
 cancel_since before now k idle hears is = elim (hears.cancel is) [ inl stood ↦ absurd (true≢false (sym stood ∙ idle)) | inr since ↦ since ]
+
+-- and up to the end of a sleep none was given
+pub slept_uncancelled : (result : Result Answer Cause) (before woken now : Attention) → Hears 1 before woken → GivenNoMore Cancel before.told woken.told → Hears 0 woken now → AnswerUncancelled result before.told now.told
+slept_uncancelled (Ok answer) before woken now heard none later = λ whole. record { woken = woken.told; asked = heard.asked; uncancelled = none; later = later.asked; gained = later.gained }
+slept_uncancelled (Err cause) before woken now heard none later = tt

@@ -2,21 +2,29 @@
 use Rattle.std.proofs.Common.{◌≡◌, ℕ, ◌*◌, List, [], ◌∷◌, ◌++◌, Option, Result, Ok, Err, IfOk, subst}
 use Rattle.pm_query.specs.{pm_sql.{declared.stmt.Stmt.Stmt, Statements.IsQueryText}, declared.book.BookEntry.{BookEntry, TheVariants.Released}}
 use Rattle.pm_child_life.specs.Life.{Told}
-use Rattle.pm_session_exchange.specs.{declared.{ending.Cause.Cause, release.Answer.Answer}, Sent.{Turn, Ran, Faulted, NotUtf8, Cancelled, LogIsFull, Memory}, Queries.{TurnNotes, Sleeps, HasSleptFor, HasWaited, seconds_slept}, Answers.{turn_of, IsFit}}
+use Rattle.pm_session_exchange.specs.{declared.{ending.Cause.Cause, release.Answer.Answer}, Sent.{Turn, Ran, Faulted, NotUtf8, Cancelled, LogIsFull, Memory}, Queries.{TurnNotes, Sleeps, SleptWhole, HasSleptFor, HasWaited, seconds_slept}, Answers.{turn_of, IsFit}}
 
 -- ---- lists of turns
 
 -- a query for which nothing was noted hasn't run
-pub sleeps_unnoted : (gives : ℕ → Type 0) (pid : ℕ) (text : List ℕ) (turn : Turn) → TurnNotes pid text turn [] → Sleeps gives text turn
-sleeps_unnoted gives pid text (Ran reply) notes = absurd (none_released notes.answered pid notes.front notes.tick notes.entries_are)
+pub unnoted : (pid : ℕ) (text : List ℕ) (turn : Turn) → TurnNotes pid text turn [] → SleptWhole turn → ⊥
+unnoted pid text (Ran reply) notes whole = none_released notes.answered pid notes.front notes.tick notes.entries_are
   where
     none_released : (entries : List BookEntry) (pid front tick : ℕ) → [] ≡ entries ++ Released pid front tick ∷ [] → ⊥
     none_released [] pid front tick e = cc
     none_released (entry ∷ entries) pid front tick e = cc
+unnoted pid text (Faulted fault) notes whole = whole
+unnoted pid text NotUtf8 notes whole = whole
+unnoted pid text Cancelled notes whole = whole
+unnoted pid text LogIsFull notes whole = cc
+unnoted pid text Memory notes whole = whole
+
+pub sleeps_unnoted : (gives : ℕ → Type 0) (pid : ℕ) (text : List ℕ) (turn : Turn) → TurnNotes pid text turn [] → Sleeps gives text turn
+sleeps_unnoted gives pid text (Ran reply) notes = absurd (unnoted pid text (Ran reply) notes tt)
 sleeps_unnoted gives pid text (Faulted fault) notes = tt
 sleeps_unnoted gives pid text NotUtf8 notes = tt
 sleeps_unnoted gives pid text Cancelled notes = tt
-sleeps_unnoted gives pid text LogIsFull notes = absurd cc
+sleeps_unnoted gives pid text LogIsFull notes = absurd (unnoted pid text LogIsFull notes tt)
 sleeps_unnoted gives pid text Memory notes = tt
 
 -- a script that slept is that of the text

@@ -3,10 +3,10 @@ use Rattle.std.specs.{Prelude.{◌≡◌, ◌*◌, ◌++◌, ℕ, List, [], ◌�
 use Rattle.pm_query.specs.{pm_sql.{declared.stmt.Stmt.Stmt, Statements.IsQueryText}, declared.{book.BookEntry.{BookEntry, TheVariants.Released}, store.{Staged.Staged, StoreNo.StoreNo}}, Calls.{User, MayBeOver, NotesFault, user_of}, Limits.HasShortValues}
 use Rattle.pm_query.specs.declared.store.StoreNo.TheVariants as nos
 use Rattle.pm_query.specs.declared.store.Store as Store
-use Rattle.pm_child_life.specs.{Life.{Told, Cancel}, Attention.{Attention, GivenSince}}
+use Rattle.pm_child_life.specs.{Life.{Told, Cancel}, Attention.{Attention, HasAsked, HasGained, GivenSince, GivenNoMore}}
 use Rattle.pm_startup.specs.pm_wire.declared.condition.Fixed.TheVariants as fixes
 use Rattle.pm_startup.specs.pm_wire.{Conditions.{error, fixed_message}, Backend.{BackMessage, Ready}}
-use Rattle.pm_session_exchange.specs.{declared.{ending.Cause.{Cause, TheVariants.{Panicked, ToldToTerminate, ToldToQuit, Killed, Overtaken}}, release.{Answer.Answer, Awaited.Awaited}, query.Slept.Slept}, Queries.{IsReadAs, IsUnreleased, TurnNotes, IsCancelledTurn, HasWaited, Sleeps}, Sent.{Turn, Ran, Faulted, NotUtf8, Cancelled, LogIsFull, Memory, item_messages, fault_state, turn_messages}, Moments.{IsHeeded, IsSignal}, Room.IsFaultString}
+use Rattle.pm_session_exchange.specs.{declared.{ending.Cause.{Cause, TheVariants.{Panicked, ToldToTerminate, ToldToQuit, Killed, Overtaken}}, release.{Answer.Answer, Awaited.Awaited}, query.Slept.Slept}, Queries.{IsReadAs, IsUnreleased, TurnNotes, IsCancelledTurn, SleptWhole, HasWaited, Sleeps}, Sent.{Turn, Ran, Faulted, NotUtf8, Cancelled, LogIsFull, Memory, item_messages, fault_state, turn_messages}, Moments.{IsHeeded, IsSignal}, Room.IsFaultString}
 use Rattle.pm_session_exchange.specs.declared.release.Answer.TheVariants as answers
 use Rattle.pm_session_exchange.specs.declared.release.Awaited.TheVariants as waits
 use Rattle.pm_session_exchange.specs.declared.query.Slept.TheVariants as sleeps
@@ -114,18 +114,29 @@ ReleaseNotes user staged (Err cause) entries = WaitNotes user staged.front (Err 
 
 -- ---- signals
 
--- all of the time has passed, or a cancel or an end was given
+-- A sleep asked for signals, once at least, and up to its end no cancel was given.
+pub record SleepsUncancelled (before now : Option Told) : Type 0 where
+  pub woken : Option Told
+  pub asked : HasAsked 1 before woken
+  pub uncancelled : GivenNoMore Cancel before woken
+  pub later : HasAsked 0 woken now
+  pub gained : HasGained woken now
+
+-- all of the time has passed and no cancel was given, or a cancel or an end was
 abbrev pub SleepGoes : (ℕ → Type 0) → (seconds : ℕ) → Result Slept Cause → (before now : Attention) → Type 0
-SleepGoes gives seconds (Ok sleeps.Whole) before now = HasWaited gives (1000 * seconds)
+SleepGoes gives seconds (Ok sleeps.Whole) before now = HasWaited gives (1000 * seconds) × GivenNoMore Cancel before.told now.told
 SleepGoes gives seconds (Ok sleeps.Cancelled) before now = GivenSince Cancel before.told now.told
 SleepGoes gives seconds (Err cause) before now = IsSignal cause × IsHeeded cause now
 
--- an answer fits its text, and has slept as long as this says
+-- an answer fits its text, has slept as long as this says, and was given no cancel up to the end of its sleep
 abbrev pub AnswerFits : List ℕ → Result Answer Cause → (before now : Option Told) → Type 0
 AnswerFits text result before now = IfOk result (λ answer. IsFit text answer before now)
 
 abbrev pub AnswerSleeps : (gives : ℕ → Type 0) → List ℕ → Result Answer Cause → Type 0
 AnswerSleeps gives text result = IfOk result (λ answer. Sleeps gives text (turn_of answer))
+
+abbrev pub AnswerUncancelled : Result Answer Cause → (before now : Option Told) → Type 0
+AnswerUncancelled result before now = IfOk result (λ answer. SleptWhole (turn_of answer) → SleepsUncancelled before now)
 
 -- ---- of a store, by a pass of its own
 

@@ -63,6 +63,12 @@ abbrev pub IsCancelledTurn : Turn → Type 0
 IsCancelledTurn Cancelled = Unit {0}
 IsCancelledTurn _ = ⊥
 
+-- its sleep went to its end, and its script was run
+abbrev pub SleptWhole : Turn → Type 0
+SleptWhole (Ran reply) = Unit {0}
+SleptWhole LogIsFull = Unit {0}
+SleptWhole _ = ⊥
+
 -- ---- texts
 
 -- Only bytes that are UTF-8 are looked at further, and only a script is cancelled.

@@ -1,7 +1,7 @@
 //! What a child hears of its own life. It takes its signals before each read and each write, and wherever a query may be
 //! stopped.
 ghost use Rattle.std.specs.Prelude.{◌≡◌, ℕ, None, Some, IfErr, IsTrue, false, option_map};
-ghost use Rattle.pm_child_life.specs.{Life.{HasNoCancel, IsUntried, asked_cancel, let_go}, Attention.{attention, nothing_stands, Hears, IsAttentive}};
+ghost use Rattle.pm_child_life.specs.{Life.{HasNoCancel, IsUntried, asked_cancel, let_go}, Attention.{attention, nothing_stands, CancelStands, Hears, IsAttentive}};
 ghost use Rattle.pm_session_exchange.specs.{Attention.{ends_by, ends_of, EndsIn}, Line.{MeetsGate, without_cancel}, Moments.{IsHeeded, IsWaitEnd, GoesOrStops, IsUntold}};
 
 use crate::ending::Cause;
@@ -56,6 +56,7 @@ impl<F: Life> Ear<F> {
     pub fn listen(&mut self)
         ensures hears { Hears 1 self.old self.new }
         ensures attentive { IsAttentive self.new }
+        ensures cancel { CancelStands self.old self.new }
     {
         listen(&mut self.life, &mut self.standing);
     }
@@ -98,6 +99,7 @@ impl<F: Life> Ear<F> {
         ensures attentive { IsAttentive self.new }
         ensures ends { EndsIn result self.new.standing }
         ensures stops { GoesOrStops result self.new }
+        ensures cancel { CancelStands self.old self.new }
     {
         self.listen();
         match self.ends() {

@@ -2,7 +2,7 @@
 ghost use Rattle.std.specs.Prelude.{◌≡◌, ℕ, [], Option, IfOk, false};
 ghost use Rattle.pm_sql.specs.Faults.{IsFaultOf};
 ghost use Rattle.pm_child_life.specs.{Attention.Hears, Life.Told};
-ghost use Rattle.pm_session_exchange.specs.{Queries.{HasSleptFor, Sleeps, TurnNotes}, Answers.{AnswerNotes, ScriptNotes, CanRefuseRun, refusal_of, turn_of, IsFit, FitsScript, SleepGoes, Notes, KeepsUser, AnswerFits, AnswerSleeps}, Moments.AnswersOrHeeds, Room.IsQueryString};
+ghost use Rattle.pm_session_exchange.specs.{Queries.{HasSleptFor, Sleeps, TurnNotes}, Answers.{AnswerNotes, ScriptNotes, CanRefuseRun, refusal_of, turn_of, IsFit, FitsScript, SleepGoes, Notes, KeepsUser, AnswerFits, AnswerSleeps, AnswerUncancelled}, Moments.AnswersOrHeeds, Room.IsQueryString};
 
 use crate::ear::Ear;
 use crate::ending::Cause;
@@ -40,6 +40,7 @@ impl<L: Link, F: Life> Line<L, F> {
         ensures fit { AnswerFits text.now result self.old.child.told
             self.new.child.told }
         ensures slept { AnswerSleeps (C.gives means.now.clock.now) text.now result }
+        ensures uncancelled { AnswerUncancelled result self.old.child.told self.new.child.told }
         ensures admits { S.admits store.new pass.new }
         ensures user { KeepsUser S.Store store.old pass.old store.new pass.new }
         ensures link { self.new.link ≡ self.old.link }
@@ -65,6 +66,7 @@ impl<F: Life> Ear<F> {
             store.old store.new }
         ensures fit { AnswerFits text.now result self.old.told self.new.told }
         ensures slept { AnswerSleeps (C.gives means.now.clock.now) text.now result }
+        ensures uncancelled { AnswerUncancelled result self.old.told self.new.told }
         ensures admits { S.admits store.new pass.new }
         ensures user { KeepsUser S.Store store.old pass.old store.new pass.new }
         ensures hears { Hears 0 self.old self.new }
@@ -95,6 +97,7 @@ impl<F: Life> Ear<F> {
         ensures fit { IfOk result (FitsScript script.now self.old.told self.new.told) }
         ensures slept { IfOk result (λ answer. HasSleptFor (C.gives means.now.clock.now)
             (turn_of answer) script.now) }
+        ensures uncancelled { AnswerUncancelled result self.old.told self.new.told }
         ensures admits { S.admits store.new pass.new }
         ensures user { KeepsUser S.Store store.old pass.old store.new pass.new }
         ensures hears { Hears 0 self.old self.new }

@@ -5,7 +5,7 @@ use lib.ListN.{get_elem?}
 use Rattle.std.specs.Prelude.{Option, Some, None}
 use Rattle.atomic_table.{specs.Table.{step, gives, stepped, Allows}, proofs.Lists.{at_set, set_here}}
 use Rattle.pm_segment.specs.{pm_query.{declared.book.BookEntry.BookEntry, Book.generation_of}, declared.pass.Pass.Pass}
-use Rattle.pm_store_shared.{specs.{declared.views.{Taken.Taken, Hand.Hand, Desk.Desk, View.{View, TheVariants.{Vacant, Founding, Master, Worker, Spent}}}, Log.{Line, AllOwn, NoneOwn, book_of, lines, noted_from, placed, placed_rest}, Passes.AllKnown, Rule.{Cell, Where, home, out, HasTaken, Fits, AreCounted, Holds, Kept, taken}, Told.{Gave, log_in, Turns, HandStep, HandMay, DeskStep, DeskMay}}, proofs.{Keeps.{put, at_put, put_here, put_else, counted_put, St, held_at}, Logs.{continues_lines, rest-append, rest-own, rest-none, placed-append, placed-own, placed-other, placed-none, below-append, below-lines, below-none, book-append, book-lines, book-length, known_on}}}
+use Rattle.pm_store_shared.{specs.{declared.views.{Taken.Taken, Hand.Hand, Desk.Desk, View.{View, TheVariants.{Vacant, Founding, Master, Worker, Spent}}}, Log.{Line, AllOwn, NoneOwn, book_of, lines, noted_from, all_behind, placed, placed_rest}, Passes.AllKnown, Rule.{Cell, Where, home, out, HasTaken, Fits, AreCounted, Holds, Kept, taken}, Told.{Gave, log_in, Turns, HandStep, HandMay, DeskStep, DeskMay}}, proofs.{Keeps.{put, at_put, put_here, put_else, counted_put, St, held_at}, Logs.{continues_lines, rest-append, rest-own, rest-none, placed-append, placed-own, placed-other, placed-none, below-append, below-lines, below-none, book-append, book-lines, book-length, known_on}}}
 
 module _ {S F : Type 0} (Is : F → List BookEntry → S → Type 0) (Knows : List BookEntry → S → Pass → Type 0) where
   is_out : (w : Where) (t b : Taken S) (id n : ℕ) → HasTaken w t id n (Some b) → w ≡ out id n
@@ -28,7 +28,7 @@ module _ {S F : Type 0} (Is : F → List BookEntry → S → Type 0) (Knows : Li
       first_is = f.first_is;
       few = f.few;
       generation = f.generation ∙ sym same_generation;
-      own = f.own ∙ sym (rest-append 0 log (lines k es) ∙ ap (λ z. placed_rest 0 log ++ z) (rest-own k (0 + length log) es all_own) ∙ append-nil (placed_rest 0 log));
+      own = f.own ∙ sym (rest-append [] log (lines k es) ∙ ap (λ z. placed_rest [] log ++ z) (rest-own k (book_of log) es all_own) ∙ append-nil (placed_rest [] log));
       joined = λ i l e.
           let h = f.joined i l e in let other : i ≢ k = λ same. ne (f.seat ∙ sym h.0 ∙ ap (λ q. (cells q).seat) same ∙ is) in
           (ap (λ (q : Cell). q.seat) (put_else cells k c i other) ∙ h.0, h.1 ∙ sym (placed-append i 0 log (lines k es) ∙ ap (λ z. placed i 0 log ++ z) (placed-other i k (0 + length log) es other) ∙ append-nil (placed i 0 log)), continues_lines l.past log k es h.2);
@@ -114,12 +114,11 @@ module _ {S F : Type 0} (Is : F → List BookEntry → S → Type 0) (Knows : Li
     pub gave_desk : (s : St S F) (id n : ℕ) (d : Desk S F) (added : List BookEntry) (x' : S) → NoneOwn added → DeskStep Is Knows (taken (book_of log) x) added x'
         → get_elem? s.views id ≡ some (Master d) → (w : Where) → Holds Is Knows w master dealt first cells log x s → w ≡ out id n
         → Kept Is Knows (stepped s 0 0 id ((0, Some x') ∷ [])
-        (Master record { dealt = d.dealt; first = d.first; generation = generation_of (book_of log ++ added); own = d.own ++ noted_from (length (book_of log)) added; joined = d.joined; held = None }) gives)
+        (Master record { dealt = d.dealt; first = d.first; generation = generation_of (book_of log ++ added); own = d.own ++ all_behind (book_of log) added; joined = d.joined; held = None }) gives)
     gave_desk s id n d added x' none_own may at w hold w_is =
         let f = hold.each_seat id (Master d) at in
         let log' : List Line = log ++ lines 0 added in
-        let d' : Desk S F = record { dealt = d.dealt; first = d.first; generation = generation_of (book_of log ++ added); own = d.own ++ noted_from (length (book_of log)) added; joined = d.joined; held = None } in
-        let start : length (book_of log) ≡ 0 + length log = let e = book-length log in omega arith in
+        let d' : Desk S F = record { dealt = d.dealt; first = d.first; generation = generation_of (book_of log ++ added); own = d.own ++ all_behind (book_of log) added; joined = d.joined; held = None } in
         let book' : book_of log ++ added ≡ book_of log' = sym (book-append log (lines 0 added) ∙ ap (λ z. book_of log ++ z) (book-lines 0 added)) in
         let one : length s.words ≡ 1 = hold.one_word in let one' : length s.homes ≡ 1 = hold.one_slot in
         inr (
@@ -146,7 +145,7 @@ module _ {S F : Type 0} (Is : F → List BookEntry → S → Type 0) (Knows : Li
                   first_is = f.first_is;
                   few = f.few;
                   generation = ap generation_of book';
-                  own = (λ i. f.own i ++ noted_from (start i) added) ∙ ap (λ z. placed_rest 0 log ++ z) (sym (rest-none 0 (0 + length log) added none_own)) ∙ sym (rest-append 0 log (lines 0 added));
+                  own = (λ i. f.own i ++ all_behind (book_of log) added) ∙ ap (λ z. placed_rest [] log ++ z) (sym (rest-none 0 (book_of log) added none_own)) ∙ sym (rest-append [] log (lines 0 added));
                   joined = λ i l e. let h = f.joined i l e in (h.0, h.1 ∙ same_place i added none_own, continues_lines l.past log 0 added h.2);
                   held = tt;
                 })
@@ -181,11 +180,10 @@ module _ {S F : Type 0} (Is : F → List BookEntry → S → Type 0) (Knows : Li
       let has = subst (HasTaken r.0 t id d.dealt) may.held f.held in
       let w_is = is_out r.0 t may.was id d.dealt has in
       let was_is : may.was ≡ t = (subst (λ w. HasTaken w t id d.dealt (Some may.was)) w_is has).2 in
-      let n : ℕ = length (book_of r.5) in
       let log_is : book_of r.5 ≡ log_in d.held = ap (λ (y : Taken S). y.log) (sym was_is) ∙ ap log_in (sym may.held) in (
-        Master record { dealt = d.dealt; first = d.first; generation = generation_of (book_of r.5 ++ may.added); own = d.own ++ noted_from n may.added; joined = d.joined; held = None },
+        Master record { dealt = d.dealt; first = d.first; generation = generation_of (book_of r.5 ++ may.added); own = d.own ++ all_behind (book_of r.5) may.added; joined = d.joined; held = None },
         gives,
         tt,
         gave_desk r.1 r.2 r.3 r.4 r.5 r.6 s id d.dealt d may.added x' may.none_own (subst (λ y. DeskStep Is Knows y may.added x') was_is may.step) at r.0 hold w_is,
-        (may.added, may.is_told, (λ i. (Master record { dealt = d.dealt; first = d.first; generation = generation_of (log_is i ++ may.added); own = d.own ++ noted_from (length (log_is i)) may.added; joined = d.joined; held = None }, []))),
+        (may.added, may.is_told, (λ i. (Master record { dealt = d.dealt; first = d.first; generation = generation_of (log_is i ++ may.added); own = d.own ++ all_behind (log_is i) may.added; joined = d.joined; held = None }, []))),
       )

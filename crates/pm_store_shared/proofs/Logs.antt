@@ -1,9 +1,9 @@
 -- Lists of lines, of passes, and sums.
-use Rattle.std.{proofs.{Common.{◌≡◌, ◌≢◌, inl, inr, ℕ, zero, suc, ◌+◌, ◌<◌, ◌≤◌, ◌==◌, ◌&&◌, Bool, true, false, cond, List, [], ◌∷◌, ◌++◌, length, sym, refl, ap, ◌∙◌, subst, arith, append_assoc, ne_eqb, eq-eqb}, lemmas.Bool.{false≢true, Decides.nat_tests}}, specs.Prelude.{Some, slice_get}}
+use Rattle.std.{proofs.{Common.{◌≡◌, ◌≢◌, inl, inr, ℕ, zero, suc, ◌+◌, ◌<◌, ◌≤◌, ◌==◌, ◌&&◌, Bool, true, false, cond, List, [], ◌∷◌, ◌++◌, length, sym, refl, ap, ◌∙◌, subst, arith, append-nil, append_assoc, ne_eqb, eq-eqb}, lemmas.Bool.{false≢true, Decides.nat_tests}}, specs.Prelude.{Some, slice_get}}
 use mathlib.Core.Logic.{dite}
 use native.Mathlib.Decide.{ℕ_discrete}
 use Rattle.pm_segment.specs.{pm_query.{declared.book.BookEntry.BookEntry, pm_facts.Numbers.sum_below}, declared.pass.Pass.Pass}
-use Rattle.pm_store_shared.specs.{Log.{Line, is_own, AllOwn, NoneOwn, book_of, lines, noted, noted_from, placed, placed_rest, AllBelow, Continues}, Passes.{Among, live, without_pass, AllUpTo, AllKnown}, Told.{AllContinue, pasts}, declared.views.Joined.Joined}
+use Rattle.pm_store_shared.specs.{Log.{Line, is_own, AllOwn, NoneOwn, book_of, lines, noted, noted_behind, noted_from, all_behind, placed, placed_rest, AllBelow, Continues}, Passes.{Among, live, without_pass, AllUpTo, AllKnown}, Told.{AllContinue, pasts}, declared.views.Joined.Joined}
 
 abbrev one : Bool → ℕ
 one b = cond b 1 0
@@ -42,22 +42,27 @@ placed-new d n (l ∷ ls) a = split (is_own l.entry) a.0 (placed-new d (n + 1) l
     split true f h = let lt : l.by < d = f refl in ap (λ z. cond z (noted n l.entry ∷ placed d (n + 1) ls) (placed d (n + 1) ls)) (ne_eqb l.by d (λ e. absurd (omega arith))) ∙ h
     split false f h = h
 
-pub rest-append : (n : ℕ) (xs ys : List Line) → placed_rest n (xs ++ ys) ≡ placed_rest n xs ++ placed_rest (n + length xs) ys
-rest-append n [] ys = ap (λ m. placed_rest m ys) (omega arith)
-rest-append n (x ∷ xs) ys = split (is_own x.entry) (rest-append (n + 1) xs ys ∙ ap (λ m. placed_rest (n + 1) xs ++ placed_rest m ys) (omega arith))
+pub rest-append : (before : List BookEntry) (xs ys : List Line) → placed_rest before (xs ++ ys) ≡ placed_rest before xs ++ placed_rest (before ++ book_of xs) ys
+rest-append before [] ys = ap (λ z. placed_rest z ys) (sym (append-nil before))
+rest-append before (x ∷ xs) ys =
+    split (is_own x.entry) (rest-append (before ++ x.entry ∷ []) xs ys ∙ ap (λ z. placed_rest (before ++ x.entry ∷ []) xs ++ placed_rest z ys) (append_assoc before (x.entry ∷ []) (book_of xs)))
   where
-    split : (b : Bool) → placed_rest (n + 1) (xs ++ ys) ≡ placed_rest (n + 1) xs ++ placed_rest (n + length (x ∷ xs)) ys
-        → cond b (placed_rest (n + 1) (xs ++ ys)) (noted n x.entry ∷ placed_rest (n + 1) (xs ++ ys)) ≡ cond b (placed_rest (n + 1) xs) (noted n x.entry ∷ placed_rest (n + 1) xs) ++ placed_rest (n + length (x ∷ xs)) ys
+    split : (b : Bool) → placed_rest (before ++ x.entry ∷ []) (xs ++ ys) ≡ placed_rest (before ++ x.entry ∷ []) xs ++ placed_rest (before ++ book_of (x ∷ xs)) ys
+        → cond b (placed_rest (before ++ x.entry ∷ []) (xs ++ ys)) (noted_behind before x.entry ∷ placed_rest (before ++ x.entry ∷ []) (xs ++ ys))
+        ≡ cond b (placed_rest (before ++ x.entry ∷ []) xs) (noted_behind before x.entry ∷ placed_rest (before ++ x.entry ∷ []) xs) ++ placed_rest (before ++ book_of (x ∷ xs)) ys
     split true h = h
-    split false h = ap (λ l. noted n x.entry ∷ l) h
+    split false h = ap (λ l. noted_behind before x.entry ∷ l) h
 
-pub rest-own : (k n : ℕ) (es : List BookEntry) → AllOwn es → placed_rest n (lines k es) ≡ []
-rest-own k n [] a = refl
-rest-own k n (e ∷ es) a = ap (λ b. cond b (placed_rest (n + 1) (lines k es)) (noted n e ∷ placed_rest (n + 1) (lines k es))) a.0 ∙ rest-own k (n + 1) es a.1
+pub rest-own : (k : ℕ) (before es : List BookEntry) → AllOwn es → placed_rest before (lines k es) ≡ []
+rest-own k before [] a = refl
+rest-own k before (e ∷ es) a =
+    ap (λ b. cond b (placed_rest (before ++ e ∷ []) (lines k es)) (noted_behind before e ∷ placed_rest (before ++ e ∷ []) (lines k es))) a.0 ∙ rest-own k (before ++ e ∷ []) es a.1
 
-pub rest-none : (k n : ℕ) (es : List BookEntry) → NoneOwn es → placed_rest n (lines k es) ≡ noted_from n es
-rest-none k n [] a = refl
-rest-none k n (e ∷ es) a = ap (λ b. cond b (placed_rest (n + 1) (lines k es)) (noted n e ∷ placed_rest (n + 1) (lines k es))) a.0 ∙ ap (λ l. noted n e ∷ l) (rest-none k (n + 1) es a.1)
+pub rest-none : (k : ℕ) (before es : List BookEntry) → NoneOwn es → placed_rest before (lines k es) ≡ all_behind before es
+rest-none k before [] a = refl
+rest-none k before (e ∷ es) a =
+    ap (λ b. cond b (placed_rest (before ++ e ∷ []) (lines k es)) (noted_behind before e ∷ placed_rest (before ++ e ∷ []) (lines k es))) a.0
+    ∙ ap (λ l. noted_behind before e ∷ l) (rest-none k (before ++ e ∷ []) es a.1)
 
 pub below-append : (d : ℕ) (xs ys : List Line) → AllBelow d xs → AllBelow d ys → AllBelow d (xs ++ ys)
 below-append d [] ys a b = b

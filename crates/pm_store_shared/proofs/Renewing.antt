@@ -1,8 +1,8 @@
 -- From one generation to the next.
-use Rattle.std.{proofs.{Common.{◌≡◌, ◌⊎◌, inl, inr, ℕ, zero, suc, ◌+◌, ◌≤◌, ◌&&◌, Bool, true, false, cond, List, [], ◌∷◌, ◌++◌, All, map, length, Option, None, Some, refl, sym, ◌∙◌, ap, subst, arith, append-nil}, lemmas.{Bool.Decides.nat_tests, List.{Elements.{All-nil, All-cons, All-append}, Sums.{fold-append, sum_by-append, sum_by-cons}}}}, specs.{Prelude.{Result, Ok, Err, OnErr, OnOk, fold, nat_eq, nat_lt}, declared.alloc.AllocError.AllocError}}
+use Rattle.std.{proofs.{Common.{◌≡◌, ◌⊎◌, inl, inr, ℕ, zero, suc, ◌+◌, ◌<◌, ◌≤◌, ◌&&◌, Bool, true, false, cond, List, [], ◌∷◌, ◌++◌, All, map, Option, None, Some, refl, sym, ◌∙◌, ap, subst, arith, append-nil}, lemmas.{Bool.Decides.nat_tests, List.{Elements.{All-nil, All-cons, All-append}, Sums.{fold-append, sum_by-append, sum_by-cons}}}}, specs.{Prelude.{Result, Ok, Err, OnErr, OnOk, fold, nat_eq, nat_lt}, declared.alloc.AllocError.AllocError}}
 use Rattle.atomic_table.specs.Seated.{TableId}
 use Rattle.pm_segment.specs.{pm_query.{pm_facts.Numbers.{sum_below, sum_zero}, declared.book.BookEntry.{BookEntry, TheVariants.{Gone, Opened}}, Book.{generation_after, generation_of, times_attached}}, declared.segment.Segment.Segment, Children.{AreOthers, IsAttendedBy, once, times_behind, times_in}, Moment.{Moment, disk_of, moment}, Moves.{IsAsBefore, IsShown, Moves, Renews}, MovesLaws.{begins_on, moves_none, renewal_shown}, Stands.{Begins, Origin, WaitsFrom}, Unread.has_break, UnreadLaws.{break_before, redo_parts}, Renewal.renewal}
-use Rattle.pm_store_shared.{specs.{declared.views.{Joined.Joined, Noted.Noted, Desk.Desk, Taken.Taken, View.{View, TheVariants.Master}}, Behind.{Behind, Knows}, Log.{NoneOwn, noted_from}, Passes.{AllUpTo, live}, Renewed.{AreApart, RenewNotes}, Rule.{AreCounted, taken}, Told.{DeskMay, HasRenewed, MayGive, Resets, Seated, SharedModel, Tells, desk_resting, first_of, generation_in, given_back, is_own_of, joined_of, with_held}}, proofs.{Closing.shown, Logs.{known_later, known_on, none_live, up_to_more}, Stores.{behind_moves, knows_moves, times_on, told_on}}}
+use Rattle.pm_store_shared.{specs.{declared.views.{Joined.Joined, Noted.Noted, Desk.Desk, Taken.Taken, View.{View, TheVariants.Master}}, Behind.{Behind, Knows}, Log.{NoneOwn, all_behind}, Passes.{AllUpTo, live}, Renewed.{AreApart, AreAttached, RenewNotes}, Rule.{AreCounted, taken}, Told.{DeskMay, HasRenewed, MayGive, Resets, Seated, SharedModel, Tells, desk_resting, first_of, generation_in, given_back, is_own_of, joined_of, log_held, with_held}}, proofs.{Closing.shown, Logs.{known_later, known_on, none_live, up_to_more}, Stores.{behind_moves, knows_moves, times_on, told_on}}}
 
 -- ---- entries
 
@@ -105,6 +105,14 @@ at_most false false = omega arith
 apart : (inside gone others : List ℕ) → AreOthers inside gone others → AreApart gone others
 apart inside gone others are pid = subst (λ n. n ≤ cond (nat_eq 0 (times_in pid gone)) 1 0) (sym (are pid)) (at_most (nat_lt 0 (times_in pid inside)) (nat_eq 0 (times_in pid gone)))
 
+some_inside : (n : ℕ) (t g : Bool) → nat_lt 0 n ≡ t → 1 ≤ cond {A = ℕ} (t && g) 1 0 → 1 ≤ n
+some_inside n true g is one = (let more : 0 < n = grind (arith, nat_tests, is) in omega (arith, more))
+some_inside n false g is one = (let none : 1 ≤ 0 = one in absurd (omega (arith, none)))
+
+attached : (log : List BookEntry) (inside gone others : List ℕ) → AreOthers inside gone others → IsAttendedBy inside log → AreAttached log others
+attached log inside gone others are attended pid there =
+    subst (λ n. 1 ≤ n) (sym (attended pid)) (some_inside (times_in pid inside) (nat_lt 0 (times_in pid inside)) (nat_eq 0 (times_in pid gone)) refl (subst (λ n. 1 ≤ n) (are pid) there))
+
 abbrev pub desk_holding : {S F : Type 0} → ℕ → F → ℕ → List Noted → List Joined → Taken S → Desk S F
 desk_holding n first gen own joined t = record { dealt = n; first = first; generation = gen; own = own; joined = joined; held = Some t }
 
@@ -114,14 +122,14 @@ module _ {D B : Type 0} {g h : _} (n : ℕ) (first : D) (gen : ℕ) (own : List 
       OnOk r ((others : List ℕ) × AreOthers (moment x).inside gone others × Renews (map Gone (gone ++ others) ++ Opened generation ∷ []) (moment x) (moment x'))
       × OnErr r (IsAsBefore (moment x) (moment x'))
 
-  desk_may : (r : Result (Unit {0}) AllocError) → Behind first log x → Did r → disk_of x' ≡ disk_of x → DeskMay Behind Knows (RenewNotes generation gone r) (desk_holding n first gen own joined (taken log x)) x'
+  desk_may : (r : Result (Unit {0}) AllocError) → Behind first log x → Did r → disk_of x' ≡ disk_of x → DeskMay Behind Knows (RenewNotes log generation gone r) (desk_holding n first gen own joined (taken log x)) x'
   desk_may (Ok done) is did disk =
       let others : List ℕ = did.0.0 in let es : List BookEntry = renewal (gone ++ others) generation in
       let next = generation_behind log (gone ++ others) generation in record {
         was = taken log x;
         added = es;
         held = refl;
-        is_told = (others, refl, apart (moment x).inside gone others did.0.1);
+        is_told = (others, refl, apart (moment x).inside gone others did.0.1, attached log (moment x).inside gone others did.0.1 is.attended);
         none_own = none_gone (gone ++ others) generation;
         step = record {
           resets = resets_behind log es next (nobody_behind log (moment x).inside gone others generation did.0.1 is.attended);
@@ -145,37 +153,40 @@ module _ {D B : Type 0} {g h : _} (n : ℕ) (first : D) (gen : ℕ) (own : List 
       }
 
   pub renew_may : (r : Result (Unit {0}) AllocError) (me me' : Seated (Segment D B g h) D) (c : List (ℕ × Option (Segment D B g h))) → me ≡ desk_resting n first gen own joined → me' ≡ (with_held me.0 (Some (taken log x)), c)
-      → Tells Behind Knows me.0 (taken log x) → Did r → disk_of x' ≡ disk_of x → MayGive Behind Knows (RenewNotes generation gone r) [] me'.0 x'
+      → Tells Behind Knows me.0 (taken log x) → Did r → disk_of x' ≡ disk_of x → MayGive Behind Knows (RenewNotes (log_held me'.0) generation gone r) [] me'.0 x'
   renew_may r me me' c is was tells did disk =
       let held : me'.0 ≡ Master (desk_holding n first gen own joined (taken log x)) = ap (λ (m : Seated (Segment D B g h) D). m.0) was ∙ ap (λ (m : Seated (Segment D B g h) D). with_held m.0 (Some (taken log x))) is in
       let tells' = subst (λ (m : Seated (Segment D B g h) D). Tells Behind Knows m.0 (taken log x)) is tells in
-      subst (λ (v : View (Segment D B g h) D). MayGive Behind Knows (RenewNotes generation gone r) [] v x') (sym held) (desk_may r tells'.3 did disk)
+      subst (λ (v : View (Segment D B g h) D). MayGive Behind Knows (RenewNotes (log_held v) generation gone r) [] v x') (sym held) (desk_may r tells'.3 did disk)
 
 pub renew_did : {S F : Type 0} (n : ℕ) (first : F) (gen : ℕ) (own : List Noted) (joined : List Joined) (log es : List BookEntry) (x : S) (gone : List ℕ) (generation : ℕ) (r : Result (Unit {0}) AllocError)
     (id id' : TableId) (me me' me'' : Seated S F) (c c' : List (ℕ × Option S)) (old : SharedModel F) → me ≡ desk_resting n first gen own joined → me' ≡ (with_held me.0 (Some (taken log x)), c) → me'' ≡ (given_back me'.0 es [], c')
-    → generation_of log ≡ gen → shown S F id n me ≡ old → id' ≡ id → generation ≡ old.generation + 1 → RenewNotes generation gone r es
-    → OnOk r ((others : List ℕ) × AreApart gone others × HasRenewed old generation (renewal (gone ++ others) generation) (shown S F id' n me''))
+    → generation_of log ≡ gen → shown S F id n me ≡ old → id' ≡ id → generation ≡ old.generation + 1 → RenewNotes (log_held me'.0) generation gone r es
+    → OnOk r ((others : List ℕ) × AreApart gone others × HasRenewed old generation others (renewal (gone ++ others) generation) (shown S F id' n me''))
 renew_did n first gen own joined log es x gone generation (Err short) id id' me me' me'' c c' old is was now told view same next notes = tt
 renew_did {S} {F} n first gen own joined log es x gone generation (Ok done) id id' me me' me'' c c' old is was now told view same next notes =
     let others : List ℕ = notes.0 in
     let es_is : es ≡ renewal (gone ++ others) generation = notes.1 in
     let old_is : old ≡ shown S F id n (desk_resting n first gen own joined) = sym view ∙ ap (shown S F id n) is in
-    let v : View S F = Master record { dealt = n; first = first; generation = generation_of (log ++ es); own = own ++ noted_from (length log) es; joined = joined; held = None } in
+    let v : View S F = Master record { dealt = n; first = first; generation = generation_of (log ++ es); own = own ++ all_behind log es; joined = joined; held = None } in
     let now_is : me''.0 ≡ v =
     ap (λ (m : Seated S F). m.0) now ∙ ap (λ (m : Seated S F). given_back m.0 es []) was ∙ ap (λ (m : Seated S F). given_back (with_held m.0 (Some (taken log x))) es []) is in
+    let log_is : log_held me'.0 ≡ log =
+    ap (λ (m : Seated S F). log_held m.0) was ∙ ap (λ (m : Seated S F). log_held (with_held m.0 (Some (taken log x)))) is in
     let gen_is : generation_of (log ++ es) ≡ generation =
     ap (λ l. generation_of (log ++ l)) es_is ∙ generation_behind log (gone ++ others) generation ∙ ap (λ m. m + 1) (told ∙ sym (ap (λ (s : SharedModel F). s.generation) old_is)) ∙ sym next in (
       others,
       notes.2,
       (
-        length log,
+        log,
         (λ i. record {
           table = (same ∙ sym (ap (λ (s : SharedModel F). s.table) old_is)) i;
           tokens = sym (ap (λ (s : SharedModel F). s.tokens) old_is) i;
           first = (ap first_of now_is ∙ sym (ap (λ (s : SharedModel F). s.first) old_is)) i;
           generation = (ap generation_in now_is ∙ gen_is) i;
-          own = (ap is_own_of now_is ∙ (λ j. sym (ap (λ (s : SharedModel F). s.own) old_is) j ++ noted_from (length log) (es_is j))) i;
+          own = (ap is_own_of now_is ∙ (λ j. sym (ap (λ (s : SharedModel F). s.own) old_is) j ++ all_behind log (es_is j))) i;
           joined = (ap joined_of now_is ∙ sym (ap (λ (s : SharedModel F). s.joined) old_is)) i;
         }),
+        subst (λ l. AreAttached l others) log_is notes.3,
       ),
     )

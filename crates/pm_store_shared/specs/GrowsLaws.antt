@@ -1,7 +1,7 @@
 -- The laws of a token as a store.
 use Rattle.std.proofs.{Common.{ℕ, ◌+◌, ◌≤◌, arith, List, [], ◌∷◌, ◌++◌, ◌≡◌, refl, sym, ap, ◌∙◌, subst, append-nil, append_assoc}, lemmas.List.Sums.fold-append}
 use Rattle.pm_query.{specs.{declared.book.BookEntry.BookEntry, Book.{generation_after, generation_of}}, proofs.HistoryLaws.generations_rise}
-use Rattle.pm_store_shared.specs.{declared.views.Noted.Noted, Log.{Continues, entries_of, noted_from}, Told.TokenModel, Grows.Grew}
+use Rattle.pm_store_shared.specs.{declared.views.Noted.Noted, Log.{Continues, all_behind, entries_of, noted_from}, Told.TokenModel, Grows.Grew}
 
 entries-append : (xs ys : List Noted) → entries_of (xs ++ ys) ≡ entries_of xs ++ entries_of ys
 entries-append [] ys = refl
@@ -11,6 +11,10 @@ entries-append (x ∷ xs) ys = ap (λ l. x.entry ∷ l) (entries-append xs ys)
 pub entries_noted : (n : ℕ) (es : List BookEntry) → entries_of (noted_from n es) ≡ es
 entries_noted n [] = refl
 entries_noted n (e ∷ es) = ap (λ l. e ∷ l) (entries_noted (n + 1) es)
+
+pub entries_behind : (before es : List BookEntry) → entries_of (all_behind before es) ≡ es
+entries_behind before [] = refl
+entries_behind before (e ∷ es) = ap (λ l. e ∷ l) (entries_behind (before ++ e ∷ []) es)
 
 pub grew_none : {F : Type 0} (t : TokenModel F) → Grew [] t t
 grew_none t = record { table = refl; number = refl; first = refl; added = []; own = sym (append-nil t.own); added_are = refl; past = ([], sym (append-nil t.past)) }

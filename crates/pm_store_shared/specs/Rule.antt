@@ -58,7 +58,7 @@ module _ {S F : Type 0} where
     pub first_is : d.first ≡ first
     pub few : length d.joined ≤ dealt
     pub generation : d.generation ≡ generation_of (book_of log)
-    pub own : d.own ≡ placed_rest 0 log
+    pub own : d.own ≡ placed_rest [] log
     pub joined : (k : ℕ) (his : Joined) → slice_get d.joined k ≡ Some his → ((cells k).seat ≡ master) × (his.own ≡ placed k 0 log) × Continues his.past (book_of log)
     pub held : HasTaken w (taken (book_of log) x) id d.dealt d.held
 

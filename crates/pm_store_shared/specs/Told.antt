@@ -2,7 +2,7 @@
 use Rattle.std.specs.Prelude.{◌≡◌, ◌≢◌, ℕ, ◌+◌, ◌≤◌, List, [], ◌∷◌, ◌++◌, length, map, Option, Some, None, Result, Ok, Err, slice_get}
 use Rattle.atomic_table.specs.{Table.{Me, Step}, Seated.TableId}
 use Rattle.pm_segment.specs.{pm_query.{declared.{book.BookEntry.{BookEntry, TheVariants.Opened}, store.StoreNo.{StoreNo, TheVariants.Stale}}, Book.{generation_of, times_attached}}, declared.pass.Pass.Pass}
-use Rattle.pm_store_shared.specs.{declared.views.{Noted.Noted, Joined.Joined, Taken.Taken, Hand.Hand, Desk.Desk, View.{View, TheVariants.{Vacant, Founding, Master, Worker, Spent}}}, Log.{noted, noted_from, AllOwn, Continues, NoneOwn, IsShuffle}, Passes.{live, AllUpTo, AllKnown}, Rule.{Cell, AreCounted, taken}}
+use Rattle.pm_store_shared.specs.{declared.views.{Noted.Noted, Joined.Joined, Taken.Taken, Hand.Hand, Desk.Desk, View.{View, TheVariants.{Vacant, Founding, Master, Worker, Spent}}}, Log.{noted, noted_from, all_behind, AllOwn, Continues, NoneOwn, IsShuffle}, Passes.{live, AllUpTo, AllKnown}, Renewed.AreAttached, Rule.{Cell, AreCounted, taken}}
 
 -- what a call's entries do to its passes and to who is attached
 pub record Turns (book added : List BookEntry) (ps ps' : List Pass) : Type 0 where
@@ -89,13 +89,19 @@ module _ {S F : Type 0} where
   with_held (Worker h) t = Worker record { number = h.number; first = h.first; own = h.own; passes = h.passes; past = past_in t h.past; held = t }
   with_held v t = v
 
+  -- all entries before the call of who has the store
+  abbrev pub log_held : View S F → List BookEntry
+  log_held (Master d) = log_in d.held
+  log_held (Worker h) = log_in h.held
+  log_held _ = []
+
   -- the view, once the store is given back with these entries after those that were there, and these passes
   abbrev pub given_back : View S F → List BookEntry → List Pass → View S F
   given_back (Master d) es ps = Master record {
     dealt = d.dealt;
     first = d.first;
     generation = generation_of (log_in d.held ++ es);
-    own = d.own ++ noted_from (length (log_in d.held)) es;
+    own = d.own ++ all_behind (log_in d.held) es;
     joined = d.joined;
     held = None;
   }
@@ -259,9 +265,11 @@ module _ {F : Type 0} where
   abbrev pub shared_with : SharedModel F → ℕ → List Joined → SharedModel F
   shared_with s n joined = record { table = s.table; tokens = n; first = s.first; generation = s.generation; own = s.own; joined = joined }
 
-  -- it has noted these entries side by side, and is in this generation
-  abbrev pub HasRenewed : SharedModel F → ℕ → List BookEntry → SharedModel F → Type 0
-  HasRenewed s g es s' = (at : ℕ) × (s' ≡ record { table = s.table; tokens = s.tokens; first = s.first; generation = g; own = s.own ++ noted_from at es; joined = s.joined })
+  -- it has noted these entries side by side, behind a log by which each of these others was attached, and is in this generation
+  abbrev pub HasRenewed : SharedModel F → ℕ → (others : List ℕ) → List BookEntry → SharedModel F → Type 0
+  HasRenewed s g others es s' = (log : List BookEntry)
+      × (s' ≡ record { table = s.table; tokens = s.tokens; first = s.first; generation = g; own = s.own ++ all_behind log es; joined = s.joined })
+      × AreAttached log others
 
   abbrev pub new_token : SharedModel F → TokenModel F
   new_token s = record { table = s.table; number = s.tokens; first = s.first; own = []; passes = []; past = [] }

@@ -270,7 +270,7 @@ impl<D: Disk + Drop, B: Chronicle<BookEntry> + Drop> Shared<D, B> {
     ) -> Result<(), AllocError>
         requires { generation ≡ self.old.generation + 1 }
         ensures ok { OnOk result ((others : List ℕ) × AreApart gone.now others
-            × HasRenewed self.old generation
+            × HasRenewed self.old generation others
             (map Gone (gone.now ++ others) ++ Opened generation ∷ []) self.new) }
         ensures err { OnErr result (self.new ≡ self.old) }
     {

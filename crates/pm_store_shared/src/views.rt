@@ -3,10 +3,11 @@ use pm_query::BookEntry;
 use pm_segment::Pass;
 use std::collections::LinkedList;
 
-/// An entry, with its place in the log.
+/// An entry, with its place in the log. Where it tells that a child is gone, also how often that child was attached just before.
 pub struct Noted {
     pub at: u64,
     pub entry: BookEntry,
+    pub attached: u64,
 }
 
 /// The store as a seat has taken it, and all entries so far.

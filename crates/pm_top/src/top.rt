@@ -77,9 +77,8 @@ where
     // `serve`: a run of the server of many connections, likewise.
     ensures serve { (port : ℕ) (dir : List ℕ) (conf : Conf)
         → IsLineWith words.now (Command.Serve port) dir conf
-        → RunsServe conf result.status (S.faults spawner.old) (S.faults spawner.new)
-        (serve_view K.Console outside console)
-        (serve_view K.Console result.outside result.console) }
+        → RunsServe conf result.status (serve_view K.Console (S.faults spawner.old) outside console)
+        (serve_view K.Console (S.faults spawner.new) result.outside result.console) }
     // `controldata`: what the files stand for is told, or why they stand for nothing. They stay so.
     ensures told { (dir : List ℕ) → IsLine words.now Command.Controldata dir
         → HasAnswer result.status → HasTold (result.status ≡ Top.OutFault)
@@ -173,13 +172,14 @@ where
     requires book { IfSome (B.entries outside.book) (λ entries. entries ≡ []) }
     requires port { IfSome (P.visits outside.port) (λ visits. visits ≡ no_visits) }
     requires console { IfSome (K.lines console) (λ lines. lines ≡ []) }
-    ensures run { RunsServe conf.now result.status (S.faults spawner.old) (S.faults spawner.new)
-        (serve_view K.Console outside console)
-        (serve_view K.Console result.outside result.console) }
+    ensures run { RunsServe conf.now result.status
+        (serve_view K.Console (S.faults spawner.old) outside console)
+        (serve_view K.Console (S.faults spawner.new) result.outside result.console) }
     ensures rest { (result.outside.clock ≡ outside.clock) × (result.outside.seed ≡ outside.seed) }
 {
     let Served {
         end,
+        board: _,
         outside,
         console,
     } = serve_as_promised(spawner, rt, alloc, conf, outside, console);

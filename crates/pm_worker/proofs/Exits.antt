@@ -2,10 +2,10 @@
 use Rattle.std.{proofs.{Common.{ℕ, ◌≡◌, ◌∙◌, ◌++◌, Bool, true, false, List, [], ◌∷◌, Option, Some, None, ap, sym, refl, subst}, lemmas.{List.append-nil, Bool.false≢true}}, specs.Prelude.{◌↔◌, IsTrue, is_some, unwrap_or}}
 use Rattle.pm_admit.specs.declared.Cac.{Cac}
 use Rattle.pm_worker.specs.{declared.mail.{LinkTold.LinkTold, MailTold.MailTold}, Mails.IsFor, Runs.{Run, HasBegun, Does, IsRun, HasRun, close_run}}
-use Rattle.pm_board.specs.{pm_exit.{declared.child.Status.{Status, TheVariants.Code}, Ends.is_exit_0}, declared.views.{Cancel.Cancel, Offer.Offer, Work.{Work, TheVariants.{Idle, Sees, Inactive, Active, Refused, Attached}}}, Told.{child_in, past_child, MayEnd}, Models.{PostModel, MayExit, HasExited}}
+use Rattle.pm_board.specs.{pm_exit.{declared.child.Status.{Status, TheVariants.Code}, Ends.is_exit_0}, Slots.child_slots, declared.views.{Offer.Offer, Work.{Work, TheVariants.{Idle, Sees, Inactive, Active, Refused, Attached}}}, Told.{child_in, past_child, MayEnd}, Models.{PostModel, MayExit, HasExited}}
 use Rattle.pm_worker.specs.declared.mail.MailTold.TheVariants as mail
 use Rattle.pm_query.specs.declared.book.BookEntry.{BookEntry}
-use Rattle.pm_board_life.specs.Lives.{GoesOn, child_as, child_by, attached_of, IsLiving}
+use Rattle.pm_board_life.specs.Lives.{Beginning, GoesOn, LifeModel, child_as, child_by, attached_of, IsLiving}
 
 module _ {D : Type 0} where
   -- a living child is as its offer says
@@ -40,42 +40,53 @@ module _ {D : Type 0} where
   may_exit work o status h e well = (o, is_some (attached_of work), ends work o h e, λ aux active. well active)
 
 -- the run of a child that has exited
-abbrev pub run_of : PostModel MailTold → Offer MailTold → Status → MailTold → Option (ℕ × ℕ) → List Cancel → List BookEntry → Run
-run_of at o status back asked made noted =
-    record { child = past_child o status (is_some (attached_of at.knows.work)) back; heard = at.knows.notes.now; asked = asked; made = made; noted = noted }
+abbrev pub run_of : {first : Beginning MailTold} {at : LifeModel MailTold} → GoesOn first at → Offer MailTold → Status → MailTold → List BookEntry → Run
+run_of {first} {at} on o status back noted =
+    record {
+      child = past_child o status (is_some (attached_of at.post.knows.work)) back;
+      heard = at.post.knows.notes.now;
+      asked = at.cancel;
+      slots = child_slots first.post.table.slots;
+      looked = on.looked;
+      made = on.made;
+      noted = noted;
+    }
 
-pub has_run : (before at after : PostModel MailTold) (cancel : Option (ℕ × ℕ)) (pid : ℕ) (given : MailTold) (begun : HasBegun pid given before) (on : GoesOn before (record { post = at; cancel = cancel }))
-    (status : Status) (back : MailTold) (noted : List BookEntry) → IsLiving at.knows.work → HasExited status back at.knows after.knows
-    → after.table ≡ at.table → after.slot ≡ at.slot → HasRun (run_of at begun.offer status back cancel on.made noted) before after
-has_run before at after cancel pid given begun on status back noted living exited t s =
+pub has_run : (first : Beginning MailTold) (at : LifeModel MailTold) (after : PostModel MailTold) (pid : ℕ) (given : MailTold) (begun : HasBegun pid given first.post) (on : GoesOn first at)
+    (status : Status) (back : MailTold) (noted : List BookEntry) → IsLiving at.post.knows.work → HasExited status back at.post.knows after.knows
+    → after.table ≡ at.post.table → after.slot ≡ at.post.slot → HasRun (run_of on begun.offer status back noted) first.post after
+has_run first at after pid given begun on status back noted living exited t s =
     let o = begun.offer in
-    let child : child_in at.knows.work ≡ Some o = on.child ∙ ap child_in begun.runs in
-    let now = exited o (is_some (attached_of at.knows.work)) (ends at.knows.work o living child) in
+    let work = at.post.knows.work in
+    let child : child_in work ≡ Some o = on.child ∙ ap child_in begun.runs in
+    let now = exited o (is_some (attached_of work)) (ends work o living child) in
     record {
       table = t ∙ on.table;
       slot = s ∙ on.slot;
       idle = ap (λ w. w.work) now;
       offer = ap child_in begun.runs;
-      past = ap (λ w. w.past) now ∙ ap (λ xs. xs ++ past_child o status (is_some (attached_of at.knows.work)) back ∷ []) on.past;
-      heard = ap (λ w. w.notes.heard) now ∙ ap (λ xs. xs ++ at.knows.notes.now ∷ []) on.heard;
+      past = ap (λ w. w.past) now ∙ ap (λ xs. xs ++ past_child o status (is_some (attached_of work)) back ∷ []) on.past;
+      heard = ap (λ w. w.notes.heard) now ∙ ap (λ xs. xs ++ at.post.knows.notes.now ∷ []) on.heard;
+      slots = refl;
+      looked = ap (λ w. w.notes.looked) now ∙ on.looks;
       cancels = ap (λ w. w.notes.cancels) now ∙ on.cancels;
     }
 
-module _ (stamp : Option ℕ) (seed : List ℕ) (limit : ℕ) (gives : ℕ → Type 0) where
-  pub is_run : (before at : PostModel MailTold) (cancel : Option (ℕ × ℕ)) (pid : ℕ) (given : MailTold) (begun : HasBegun pid given before) (on : GoesOn before (record { post = at; cancel = cancel }))
-      (status : Status) (back : MailTold) (noted : List BookEntry) → Does stamp seed limit gives given (run_of at begun.offer status back cancel on.made noted)
-      → IsRun stamp seed limit gives (run_of at begun.offer status back cancel on.made noted)
-  is_run before at cancel pid given begun on status back noted does =
+module _ (stamp : Option ℕ) (limit : ℕ) (gives : ℕ → Type 0) where
+  pub is_run : (first : Beginning MailTold) (at : LifeModel MailTold) (pid : ℕ) (given : MailTold) (begun : HasBegun pid given first.post) (on : GoesOn first at)
+      (status : Status) (back : MailTold) (noted : List BookEntry) → Does stamp first.seed limit gives given (run_of on begun.offer status back noted)
+      → IsRun stamp first.seed limit gives (run_of on begun.offer status back noted)
+  is_run first at pid given begun on status back noted does =
       record {
         fits = subst (λ (t : MailTold). IsFor t begun.offer.kind) (sym begun.given_is) begun.fits;
-        does = subst (λ (t : MailTold). Does stamp seed limit gives t (run_of at begun.offer status back cancel on.made noted)) (sym begun.given_is) does;
+        does = subst (λ (t : MailTold). Does stamp first.seed limit gives t (run_of on begun.offer status back noted)) (sym begun.given_is) does;
         met = on.met begun.offer (ap child_in begun.runs);
         makes = on.makes;
       }
 
 -- of a child that closes its worker
 pub closed : (before after : PostModel MailTold) (pid : ℕ) (begun : HasBegun pid mail.Close before) → HasExited (Code 0) mail.Close before.knows after.knows
-    → after.table ≡ before.table → after.slot ≡ before.slot → HasRun (close_run begun.offer) before after
+    → after.table ≡ before.table → after.slot ≡ before.slot → HasRun (close_run (child_slots before.table.slots) begun.offer) before after
 closed before after pid begun exited t s =
     let o = begun.offer in
     let now = exited o false (subst (λ w. MayEnd w o false) (sym begun.runs) (refl, refl)) in
@@ -86,16 +97,19 @@ closed before after pid begun exited t s =
       offer = ap child_in begun.runs;
       past = ap (λ w. w.past) now;
       heard = ap (λ w. w.notes.heard) now ∙ ap (λ h. before.knows.notes.heard ++ h ∷ []) begun.untold;
+      slots = refl;
+      looked = ap (λ w. w.notes.looked) now ∙ sym (append-nil before.knows.notes.looked);
       cancels = ap (λ w. w.notes.cancels) now ∙ sym (append-nil before.knows.notes.cancels);
     }
 
-pub closes : (stamp : Option ℕ) (seed : List ℕ) (limit : ℕ) (gives : ℕ → Type 0) (post : PostModel MailTold) (pid : ℕ) (begun : HasBegun pid mail.Close post) → IsRun stamp seed limit gives (close_run begun.offer)
+pub closes : (stamp : Option ℕ) (seed : List ℕ) (limit : ℕ) (gives : ℕ → Type 0) (post : PostModel MailTold) (pid : ℕ) (begun : HasBegun pid mail.Close post)
+    → IsRun stamp seed limit gives (close_run (child_slots post.table.slots) begun.offer)
 closes stamp seed limit gives post pid begun =
     record {
       fits = subst (λ (t : MailTold). IsFor t begun.offer.kind) (sym begun.given_is) begun.fits;
-      does = subst (λ (t : MailTold). Does stamp seed limit gives t (close_run begun.offer)) (sym begun.given_is) refl;
+      does = subst (λ (t : MailTold). Does stamp seed limit gives t (close_run (child_slots post.table.slots) begun.offer)) (sym begun.given_is) refl;
       met = tt;
-      makes = refl;
+      makes = (refl, refl);
     }
 
 -- ---- whether the worker goes on

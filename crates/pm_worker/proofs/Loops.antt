@@ -1,7 +1,7 @@
 -- What a worker has done, one run longer.
 use Rattle.std.{proofs.{Common.{ℕ, ◌≡◌, ◌∙◌, ◌++◌, List, [], ◌∷◌, Option, map, ap, sym, refl, subst}, lemmas.{List.{append-nil, append_assoc}, Grind.flat_map-append}}, specs.List.flat_map}
 use Rattle.pm_query.specs.{pm_facts.Lists.each_more, declared.book.BookEntry.BookEntry}
-use Rattle.pm_board.specs.{declared.views.Work.TheVariants.Idle, Models.PostModel}
+use Rattle.pm_board.specs.{declared.views.Work.TheVariants.Idle, Models.PostModel, Slots.child_slots}
 use Rattle.pm_worker.specs.{declared.mail.MailTold.MailTold, Runs.{Run, IsRun, HasRun, noted_by, HasWorked}}
 
 maps_more : {A B : Type 0} (f : A → B) (xs : List A) (x : A) → map f (xs ++ x ∷ []) ≡ map f xs ++ f x ∷ []
@@ -24,6 +24,7 @@ pub record Looked (before now : PostModel MailTold) : Type 0 where
   pub slot : now.slot ≡ before.slot
   pub past : now.knows.past ≡ before.knows.past
   pub heard : now.knows.notes.heard ≡ before.knows.notes.heard
+  pub looks : now.knows.notes.looked ≡ before.knows.notes.looked
   pub cancels : now.knows.notes.cancels ≡ before.knows.notes.cancels
 
 module _ {S : Type 0} (notes : List BookEntry → S → S → Type 0) (stamp : Option ℕ) (seed : List ℕ) (limit : ℕ) (gives : ℕ → Type 0) where
@@ -38,6 +39,8 @@ module _ {S : Type 0} (notes : List BookEntry → S → S → Type 0) (stamp : O
               idle = idle;
               past = sym (append-nil post.knows.past);
               heard = sym (append-nil post.knows.notes.heard);
+              slots = tt;
+              looked = sym (append-nil post.knows.notes.looked);
               cancels = sym (append-nil post.knows.notes.cancels);
             };
         store = rest;
@@ -56,6 +59,8 @@ module _ {S : Type 0} (notes : List BookEntry → S → S → Type 0) (stamp : O
               idle = idle;
               past = l.past ∙ w.post.past;
               heard = l.heard ∙ w.post.heard;
+              slots = w.post.slots;
+              looked = l.looks ∙ w.post.looked;
               cancels = l.cancels ∙ w.post.cancels;
             };
         store = w.store;
@@ -75,6 +80,8 @@ module _ {S : Type 0} (notes : List BookEntry → S → S → Type 0) (stamp : O
               idle = has.idle;
               past = grows (λ (r : Run). r.child) begun.knows.past started.knows.past now.knows.past runs run has.past (l.past ∙ w.post.past);
               heard = grows (λ (r : Run). r.heard) begun.knows.notes.heard started.knows.notes.heard now.knows.notes.heard runs run has.heard (l.heard ∙ w.post.heard);
+              slots = each_more (λ (r : Run). r.slots ≡ child_slots begun.table.slots) runs run w.post.slots (has.slots ∙ ap (λ t. child_slots t.slots) (l.table ∙ w.post.table));
+              looked = grows_by (λ (r : Run). r.looked) begun.knows.notes.looked started.knows.notes.looked now.knows.notes.looked runs run has.looked (l.looks ∙ w.post.looked);
               cancels = grows_by (λ (r : Run). r.made) begun.knows.notes.cancels started.knows.notes.cancels now.knows.notes.cancels runs run has.cancels (l.cancels ∙ w.post.cancels);
             };
         store = subst (λ es. notes es s0 s2) (sym (flat_more (λ (r : Run). r.noted) runs run)) (in_turn s0 s1 s2 (noted_by runs) run.noted w.store n);

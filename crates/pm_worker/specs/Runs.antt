@@ -1,19 +1,21 @@
 -- The runs of the children of one worker.
 use Rattle.std.specs.{Prelude.{◌≡◌, ◌≢◌, ℕ, ◌<◌, ◌≤◌, false, List, [], ◌∷◌, ◌++◌, map, Option, Some, None, is_some}, List.{flat_map, AllByRecursion}}
 use Rattle.pm_session.specs.{pm_outside.pm_disk.Cause.Rose, pm_admit.declared.Cac.Cac, pm_child_life.Life.{Told, nothing_told}, pm_session_exchange.Sent.Turn, Session.{Ending, status_of, between, IsSession, IsCaused, HasAskedFor, HeedsTold, IsAttachedBehind, HasCancelled}}
-use Rattle.pm_board.specs.{pm_exit.declared.child.{Kind.Kind, Status.TheVariants.Code}, pm_keys.CancelKey.cancel_key, declared.views.{Cancel.Cancel, Heard.Heard, Offer.Offer, PastChild.PastChild, Work.TheVariants.{Idle, Inactive}}, Models.PostModel, Rule.no_signals, Told.child_in}
+use Rattle.pm_board.specs.{pm_exit.declared.child.{Kind.Kind, Status.TheVariants.Code}, pm_keys.CancelKey.cancel_key, declared.views.{Cancel.Cancel, Heard.Heard, LatchLook.LatchLook, Offer.Offer, PastChild.PastChild, Work.TheVariants.{Idle, Inactive}}, Models.PostModel, Rule.no_signals, Slots.child_slots, Told.child_in}
 use Rattle.pm_board.specs.pm_exit.declared.child.Kind.TheVariants as kinds
 use Rattle.pm_aux.specs.{pm_query.{declared.{book.BookEntry.BookEntry, store.StoreNo.StoreNo}, Calls.newcomer}, Runs.IsRunOf}
 use Rattle.pm_board_life.specs.Lives.{told_by, child_as, MetRightly, Makes}
 use Rattle.pm_worker.specs.{declared.mail.{LinkTold.LinkTold, MailTold.MailTold}, Mails.{traffic_in, IsFor}}
 use Rattle.pm_worker.specs.declared.mail.MailTold.TheVariants as mail
 
--- A run: the child as its slot lists it, with the mails both ways; what it heard; the cancel that it asked for, a pid and a key, and
--- those that it made; and what it noted in the book.
+-- A run: the child as its slot lists it, with the mails both ways; what it heard; the cancel that it asked for, a pid and a key, with
+-- the number of slots on its board, the latches that it looked at, and the cancels that it made; and what it noted in the book.
 pub record Run : Type 0 where
   pub child : PastChild MailTold
   pub heard : Heard
   pub asked : Option (ℕ × ℕ)
+  pub slots : ℕ
+  pub looked : List LatchLook
   pub made : List Cancel
   pub noted : List BookEntry
 
@@ -43,11 +45,13 @@ pub record IsAuxRun (stamp : Option ℕ) (kind : Kind) (run : Run) : Type 0 wher
   pub active : run.child.was_active ≡ is_some attached
 
 -- the child that closes its worker does nothing, and exits with code 0
-abbrev pub close_run : Offer MailTold → Run
-close_run o = record {
+abbrev pub close_run : (slots : ℕ) → Offer MailTold → Run
+close_run slots o = record {
   child = record { offer = o; status = Code 0; was_active = false; back = mail.Close };
   heard = no_signals;
   asked = None;
+  slots = slots;
+  looked = [];
   made = [];
   noted = [];
 }
@@ -85,17 +89,17 @@ module _ (stamp : Option ℕ) (seed : List ℕ) (limit : ℕ) (gives : ℕ → T
   Does mail.Startup run = IsAuxRun stamp kinds.Startup run
   Does mail.Checkpointer run = IsAuxRun stamp kinds.Checkpointer run
   Does mail.Writer run = IsAuxRun stamp kinds.Writer run
-  Does mail.Close run = run ≡ close_run run.child.offer
+  Does mail.Close run = run ≡ close_run run.slots run.child.offer
   Does (mail.Served link) run = ⊥
   Does (mail.Aux fault kept) run = ⊥
 
-  -- A run of a child by its mail, which is one for it. It met at the gate what is right for it, and made no cancel but, perhaps, the
-  -- one that it asked for.
+  -- A run of a child by its mail, which is one for it. It met at the gate what is right for it, and made the cancel that it asked
+  -- for, where its key was right and a latch was armed for its pid, and no other.
   pub record IsRun (run : Run) : Type 0 where
     pub fits : IsFor run.child.offer.given run.child.offer.kind
     pub does : Does run.child.offer.given run
     pub met : MetRightly run.child.offer run.heard.met
-    pub makes : Makes run.asked run.made
+    pub makes : Makes seed run.slots run.asked run.looked run.made
 
 -- ---- what a worker's post has of its runs
 
@@ -107,18 +111,23 @@ pub record HasRun (run : Run) (before after : PostModel MailTold) : Type 0 where
   pub offer : child_in before.knows.work ≡ Some run.child.offer
   pub past : after.knows.past ≡ before.knows.past ++ run.child ∷ []
   pub heard : after.knows.notes.heard ≡ before.knows.notes.heard ++ run.heard ∷ []
+  pub slots : run.slots ≡ child_slots before.table.slots
+  pub looked : after.knows.notes.looked ≡ before.knows.notes.looked ++ run.looked
   pub cancels : after.knows.notes.cancels ≡ before.knows.notes.cancels ++ run.made
 
 abbrev pub noted_by : List Run → List BookEntry
 noted_by runs = flat_map (λ run. run.noted) runs
 
--- The post has had these runs in order and no others; what it heard of each, and the cancels that it made, are theirs.
+-- The post has had these runs in order and no others; what it heard of each, the latches that it looked at and the cancels that it
+-- made are theirs.
 pub record HasRuns (runs : List Run) (before after : PostModel MailTold) : Type 0 where
   pub table : after.table ≡ before.table
   pub slot : after.slot ≡ before.slot
   pub idle : after.knows.work ≡ Idle
   pub past : after.knows.past ≡ before.knows.past ++ map (λ run. run.child) runs
   pub heard : after.knows.notes.heard ≡ before.knows.notes.heard ++ map (λ run. run.heard) runs
+  pub slots : AllByRecursion (λ run. run.slots ≡ child_slots before.table.slots) runs
+  pub looked : after.knows.notes.looked ≡ before.knows.notes.looked ++ flat_map (λ run. run.looked) runs
   pub cancels : after.knows.notes.cancels ≡ before.knows.notes.cancels ++ flat_map (λ run. run.made) runs
 
 -- ---- all runs of a worker

@@ -1,7 +1,8 @@
 //! One run of a child, from its start to its exit.
 ghost use Rattle.std.specs.Prelude.{◌≡◌, ◌↔◌, ◌<◌, ℕ, true, List, Some, None, IfSome, IsTrue};
-ghost use Rattle.pm_board.specs.{Places.is_auxiliary, pm_keys.CancelKey.cancel_key, pm_child_life.Life.nothing_told};
+ghost use Rattle.pm_board.specs.{Places.is_auxiliary, Slots.child_slots, pm_keys.CancelKey.cancel_key, pm_child_life.Life.nothing_told};
 ghost use Rattle.pm_aux.specs.{pm_query.declared.book.BookEntry.BookEntry, Runs.{IsRunOf, runner, at_end}};
+ghost use Rattle.pm_board_life.specs.Lives.{beginning};
 ghost use Rattle.pm_worker.specs.declared.mail.MailTold.TheVariants as told;
 ghost use Rattle.pm_worker.specs.{Mails.{link_told, mail_told, aux_mail}, Runs.{Run, HasBegun, IsRun, HasRun, close_run}};
 
@@ -38,7 +39,7 @@ fn serve_one<R: Wait, C: Clock, L: Link + Drop, S: Store, K: Begun<MailTold>>(
     decision: Cac,
     store: &mut S,
 ) -> Post<Mail<L>>
-    requires begun { K.begun ≡ Some post }
+    requires begun { K.begun ≡ Some (beginning post tools.now.seed) }
     requires started { HasBegun pid (told.Serve (link_told L.Link link.link) decision) post }
     ensures { (run : Run) × S.notes run.noted store.old store.new
         × IsRun (S.stamp store.old) tools.now.seed tools.now.conf.authentication_ms
@@ -91,7 +92,7 @@ fn tend_one<R: Wait, C: Clock, L: Link + Drop, S: Store, K: Begun<MailTold>>(
     kind: Kind,
     store: &mut S,
 ) -> Post<Mail<L>>
-    requires begun { K.begun ≡ Some post }
+    requires begun { K.begun ≡ Some (beginning post tools.now.seed) }
     requires kind { is_auxiliary kind ≡ true }
     requires started { HasBegun pid (aux_mail kind) post }
     ensures { (run : Run) × S.notes run.noted store.old store.new
@@ -115,8 +116,8 @@ fn tend_one<R: Wait, C: Clock, L: Link + Drop, S: Store, K: Begun<MailTold>>(
 // Ends the child that closes the worker.
 fn close_one<L: Link + Drop>(post: Post<Mail<L>>) -> Post<Mail<L>>
     requires { (pid : ℕ) × HasBegun pid told.Close post }
-    ensures { (pid : ℕ) (begun : HasBegun pid told.Close post) → HasRun (close_run begun.offer) post
-        result }
+    ensures { (pid : ℕ) (begun : HasBegun pid told.Close post)
+        → HasRun (close_run (child_slots post.table.slots) begun.offer) post result }
 {
     let mut post = post;
     post.exit(Status::Code(0), Mail::Close);

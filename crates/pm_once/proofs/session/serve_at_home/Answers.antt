@@ -14,6 +14,6 @@ returns g c =
     let pid_is : c.new-life.result.pid ≡ c.args.pid = ap (λ (child : Child). child.pid) c.new-life.ensures.child in
     let given = link_view (g.L.Link.traffic c.args.link) (g.L.Link.number c.args.link) (g.L.Link.faults c.args.link) in
     let back = link_view (g.L.Link.traffic c.serve-status.result.link) (g.L.Link.number c.serve-status.result.link) (g.L.Link.faults c.serve-status.result.link) in
-    let one = served_alone _ _ _ life.has_met (quiet_told life) home c.args.pid s.2 (cancel_key c.args.seed.now c.args.pid) c.args.conf.now.authentication_ms (g.C.Clock.gives c.args.clock.now) s.0 s.1 given back (subst (λ (t : Told). HasAskedFor s.1 (Some t) (Some (quiet_told life))) c.new-life.ensures.told s.6) (subst (λ (x : Status). HeedsTold x (quiet_told life)) s.3 c.serve-status.ensures.heeds) (quiet_child life) s.7 s.8 refl (ap (λ (n : ℕ). cond life.has_met (Some (Ok n)) None) (life.at_home ∙ sym c.requires.home))
+    let one = served_alone _ _ _ life.has_met (quiet_told life) home c.args.pid s.2 (cancel_key c.args.seed.now c.args.pid) c.args.conf.now.authentication_ms (g.C.Clock.gives c.args.means.now.clock.now) s.0 s.1 given back (subst (λ (t : Told). HasAskedFor s.1 (Some t) (Some (quiet_told life))) c.new-life.ensures.told s.6) (subst (λ (x : Status). HeedsTold x (quiet_told life)) s.3 c.serve-status.ensures.heeds) (quiet_child life) s.7 s.8 refl (ap (λ (n : ℕ). cond life.has_met (Some (Ok n)) None) (life.at_home ∙ sym c.requires.home))
     c.requires.fresh c.serve-status.ensures.number c.serve-status.ensures.link_faults (rw (pid_is, c.key-key.ensures) at s.4) s.5 in
     record { session = (record { pid = c.args.pid; generation = home; given = given; back = back; turns = s.1; ending = s.0; noted = one.0 }, refl, refl, refl, refl, s.3, one.2, one.1) }

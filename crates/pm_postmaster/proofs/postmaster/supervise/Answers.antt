@@ -5,7 +5,7 @@ use Rattle.pm_serve_pool.specs.{pm_serve_crew.Left.AreLeft, declared.{plan.{Plan
 use Rattle.pm_server.specs.{pm_disk.Cause.Rose, pm_supervisor_journal.Supervision.{at_work, told}, pm_query.declared.book.BookEntry.BookEntry, declared.end.ServerEnd.{ServerEnd, TheVariants.{NoThread, NoMemory}}}
 use Rattle.pm_server_lines.proofs.LogLaws.{said_first}
 use Rattle.pm_serve_pool.specs.declared.pool.NoPool.TheVariants as pools
-use Rattle.pm_postmaster.{specs.Served.{slots_by, unmade_by}, proofs.{Beginning.begun, Finished.{adds_new, given_back, logged_whole, told_at}, Ran.{asked, board_is, cause, clears_at, last_at, links, may_clear_at, may_close, may_close_at, once, redos, returned}}}
+use Rattle.pm_postmaster.{specs.Served.{slots_by, unmade_by}, proofs.{Beginning.begun, Finished.{adds_new, given_back, logged_whole, told_at}, Ran.{asked, board_is, cause, clears_at, connections, last_at, links, may_clear_at, may_close, may_close_at, once, redos, returned}}}
 use Rattle.pm_postmaster.proofs.postmaster.supervise.Goals as goal
 
 -- why no pool was made
@@ -92,9 +92,8 @@ returns-in-Ok-clause-run g c =
     let left = by_plan g.C.Clock.gives _ c.args.outside.clock made.pool.terms _ _ _ c.in-Ok.ensures.terms.0 c.in-Ok.ensures.terms.1 all.2 in
     let last = last_at _ _ _ _ (ap slots_of c.in-Ok.ensures.terms.0) c.close-store.ensures.last in
     let entries = c.into_journal-journal.ensures ∙ ap (λ s. told s) c.into_parts-supervision.ensures.supervision in
-    inl (record {
+    record {
       moves = stopped.moves;
-      board = _;
       own = _;
       book = all.0;
       journal = record {
@@ -104,6 +103,7 @@ returns-in-Ok-clause-run g c =
         legal = stopped.legal;
         given = stopped.holds.times;
       };
+      limit = c.close-store.ensures.limit ∙ (clears.limit ∙ stopped.holds.limit);
       board_is = board_is g.C.Clock.gives _ _ _ stopped c.laws.ensures.nobody _ _ _ clears c.clear.ensures.gone _ _ _ _ c.close-store.ensures.board last left;
       left = left;
       once = once g.C.Clock.gives _ _ _ stopped c.laws.ensures.nobody _ _ _ clears c.clear.ensures.gone _ _ _ _ c.close-store.ensures.board last left;
@@ -111,12 +111,14 @@ returns-in-Ok-clause-run g c =
       ends = stopped.ends;
       cause = cause g.C.Clock.gives _ _ _ stopped c.laws.ensures.nobody _ _ _ clears c.clear.ensures.gone _ _ _ _ c.close-store.ensures.board last left;
       renewals = stopped.renews;
+      opened = stopped.opened;
       redos = redos g.C.Clock.gives _ _ _ stopped c.laws.ensures.nobody _ _ _ clears c.clear.ensures.gone _ _ _ _ c.close-store.ensures.board last left;
       asked = asked g.C.Clock.gives _ _ _ stopped c.laws.ensures.nobody _ _ _ clears c.clear.ensures.gone _ _ _ _ c.close-store.ensures.board last left;
+      connections = connections g.C.Clock.gives _ _ _ stopped c.laws.ensures.nobody _ _ _ clears c.clear.ensures.gone _ _ _ _ c.close-store.ensures.board last left;
       links = links g.C.Clock.gives _ _ _ stopped c.laws.ensures.nobody _ _ _ clears c.clear.ensures.gone _ _ _ _ c.close-store.ensures.board last left;
       returned = returned g.C.Clock.gives _ _ _ stopped c.laws.ensures.nobody _ _ _ clears c.clear.ensures.gone _ _ _ _ c.close-store.ensures.board last left;
       logged = logged_whole _ _ _ _ _ _ _ c.new-log.ensures stopped.holds.said c.ended-sink.ensures;
-    })
+    }
 
 pub returns-in-Ok-clause-rest : goal.returns-in-Ok-clause-rest
 returns-in-Ok-clause-rest g c =
@@ -130,7 +132,7 @@ returns-in-Ok-clause-rest g c =
 pub returns-in-Err-clause-run : goal.returns-in-Err-clause-run
 returns-in-Err-clause-run g c =
     let back = given_back g.D.Disk g.B.Chronicle _ _ _ _ c.in-Err.ensures.parts in
-    inr (record {
+    record {
       why = why_unmade c.in-Err.unmade.why _ _ _ c.unmade_end-end.ensures c.in-Err.ensures.cause;
       journal = refl;
       visits = refl;
@@ -139,4 +141,4 @@ returns-in-Err-clause-run g c =
       files = back.1;
       time = back.2;
       logged = logged_whole [] _ _ _ _ _ _ c.new-log.ensures (said_first _ (ap (λ l. l.is_cut) c.new-log.ensures)) c.ended-sink-in-Err.ensures;
-    })
+    }

@@ -48,6 +48,7 @@ returns-then-closed g c =
       slot = c.in-Job.ensures.slot;
       past = ap (λ v. v.past) met.1.5;
       heard = ap (λ v. v.notes.heard) met.1.5;
+      looks = ap (λ v. v.notes.looked) met.1.5;
       cancels = ap (λ v. v.notes.cancels) met.1.5;
     } in
     record {
@@ -75,6 +76,7 @@ loop-preserved g c =
       slot = c.in-Job.ensures.slot;
       past = ap (λ v. v.past) met.1.5;
       heard = ap (λ v. v.notes.heard) met.1.5;
+      looks = ap (λ v. v.notes.looked) met.1.5;
       cancels = ap (λ v. v.notes.cancels) met.1.5;
     } in
     let goes_on : r.0.child.offer.given ≢ mail.Close = (λ e. let no_ : false ≡ true = sym c.if-closed.false ∙ r.4.1 e in absurd (cc)) in

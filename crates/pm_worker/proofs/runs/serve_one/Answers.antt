@@ -1,8 +1,8 @@
 use Rattle.std.proofs.Common.{ℕ, ◌≡◌, ◌<◌, ◌≤◌, ◌∙◌, Some, None, ap, sym, subst}
-use Rattle.pm_board.specs.{pm_exit.Ends.is_exit_0, Places.is_connection, Told.child_in, pm_keys.CancelKey.cancel_key}
+use Rattle.pm_board.specs.{pm_exit.Ends.is_exit_0, Places.is_connection, Slots.child_slots, Told.child_in, pm_keys.CancelKey.cancel_key}
 use Rattle.pm_session.specs.{pm_child_life.Life.nothing_told, Session.{IsAttachedBehind, HasAskedFor, IsCaused, HeedsTold, HasCancelled, IsSession, between}, pm_outside.pm_disk.Cause.Rose, pm_query.Calls.newcomer}
-use Rattle.pm_board_life.specs.Lives.{child_by, child_as, attached_of, told_by, GoesOn, GoesOnFrom}
-use Rattle.pm_worker.{specs.{declared.mail.MailTold.TheVariants.{Serve, Served}, Mails.link_told}, proofs.{Exits.{child_is, ends_as, may_exit, is_run, has_run, run_of}, Sessions.{told_whole, stays_inside, session_run}}}
+use Rattle.pm_board_life.specs.Lives.{LifeModel, beginning, child_by, child_as, attached_of, told_by, GoesOn, GoesOnFrom}
+use Rattle.pm_worker.{specs.{declared.mail.MailTold.{MailTold, TheVariants.{Serve, Served}}, Mails.link_told}, proofs.{Exits.{child_is, ends_as, may_exit, is_run, has_run, run_of}, Sessions.{told_whole, stays_inside, session_run}}}
 use Rattle.pm_worker.proofs.runs.serve_one.Goals as goal
 
 pub exit-requires-clause-runs : goal.exit-requires-clause-runs
@@ -10,7 +10,7 @@ exit-requires-clause-runs g c =
     let at = c.into_post-post.result in
     let o = c.requires.started.offer in
     let now = c.serve-status.result.life in
-    let on : GoesOn c.args.post now = subst (λ b. GoesOnFrom b now) c.requires.begun c.into_post-post.ensures.same in
+    let on : GoesOn (beginning c.args.post c.args.tools.now.seed) now = subst (λ b. GoesOnFrom b now) c.requires.begun c.into_post-post.ensures.same in
     let child : child_in at.knows.work ≡ Some o = ap (λ p. child_in p.knows.work) c.into_post-post.ensures.post ∙ on.child ∙ ap child_in c.requires.started.runs in
     let s = c.serve-status.ensures.session in
     let behind : IsAttachedBehind s.0 s.2 (child_as o (attached_of at.knows.work)) =
@@ -23,7 +23,7 @@ exit-requires-clause-back g c p active ends =
     let at = c.into_post-post.result in
     let o = c.requires.started.offer in
     let now = c.serve-status.result.life in
-    let on : GoesOn c.args.post now = subst (λ b. GoesOnFrom b now) c.requires.begun c.into_post-post.ensures.same in
+    let on : GoesOn (beginning c.args.post c.args.tools.now.seed) now = subst (λ b. GoesOnFrom b now) c.requires.begun c.into_post-post.ensures.same in
     let child : child_in at.knows.work ≡ Some o = ap (λ q. child_in q.knows.work) c.into_post-post.ensures.post ∙ on.child ∙ ap child_in c.requires.started.runs in
     ap (λ q. is_connection q.kind) (ends_as at.knows.work o p active child ends) ∙ c.requires.started.fits.0
 
@@ -34,8 +34,10 @@ returns g c =
     let o = begun.offer in
     let life = c.serve-status.result.life in
     let same = c.into_post-post.ensures.post in
-    let on : GoesOn c.args.post (record { post = at; cancel = life.cancel }) =
-    subst (λ p. GoesOn c.args.post (record { post = p; cancel = life.cancel })) (sym same) (subst (λ b. GoesOnFrom b life) c.requires.begun c.into_post-post.ensures.same) in
+    let start = beginning c.args.post c.args.tools.now.seed in
+    let end : LifeModel MailTold = record { post = at; seed = life.seed; cancel = life.cancel } in
+    let on : GoesOn start end =
+    subst (λ p. GoesOn start (record { post = p; seed = life.seed; cancel = life.cancel })) (sym same) (subst (λ b. GoesOnFrom b life) c.requires.begun c.into_post-post.ensures.same) in
     let child : child_in at.knows.work ≡ Some o = on.child ∙ ap child_in begun.runs in
     let s = c.serve-status.ensures.session in
     let behind : IsAttachedBehind s.0 s.2 (child_as o (attached_of at.knows.work)) =
@@ -54,7 +56,7 @@ returns g c =
     let named = (child_by c.new-life.result.post.knows.work).pid in
     let run =
     session_run g.S.Store.notes stamp tools.seed limit gives link back c.args.decision o
-    c.serve-status.result.status at.knows.notes.now life.cancel on.made (attached_of at.knows.work) s.0 s.1 s.2 c.args.store.now c.serve-status.new.store traffic
+    c.serve-status.result.status at.knows.notes.now life.cancel (child_slots c.args.post.table.slots) on.looked on.made (attached_of at.knows.work) s.0 s.1 s.2 c.args.store.now c.serve-status.new.store traffic
     c.key_of-key.result named (told_whole traffic) pid
     (subst (λ (x : ℕ). 0 < x → c.key_of-key.result ≡ cancel_key tools.seed x) (sym (pid ∙ begun.pid_is)) c.key_of-key.ensures)
     (c.serve-status.ensures.number ∙ ap g.L.Link.number c.open-link.ensures.same)
@@ -69,10 +71,10 @@ returns g c =
     behind
     (subst (λ t. HasCancelled s.0.cause traffic (Some t)) now s.8) in
     let given = Serve link c.args.decision in (
-      run_of at o c.serve-status.result.status (Served back) life.cancel on.made run.0,
+      run_of on o c.serve-status.result.status (Served back) run.0,
       run.1,
-      is_run stamp tools.seed limit gives c.args.post at life.cancel c.args.pid given begun on c.serve-status.result.status (Served back) run.0 run.2,
-      has_run c.args.post at c.exit.new.self life.cancel c.args.pid given begun on c.serve-status.result.status (Served back) run.0 c.into_post-post.ensures.living c.exit.ensures.knows
+      is_run stamp limit gives start end c.args.pid given begun on c.serve-status.result.status (Served back) run.0 run.2,
+      has_run start end c.exit.new.self c.args.pid given begun on c.serve-status.result.status (Served back) run.0 c.into_post-post.ensures.living c.exit.ensures.knows
           c.exit.ensures.table c.exit.ensures.slot,
       begun.given_is,
     )

@@ -1,7 +1,7 @@
 use Rattle.std.{proofs.Common.{ℕ, ◌≡◌, ◌∙◌, true, Option, Some, ap, sym, refl, subst}, specs.Prelude.is_some}
 use Rattle.pm_board.specs.{pm_exit.declared.child.Kind.Kind, Places.is_auxiliary, Told.child_in}
-use Rattle.pm_board_life.specs.Lives.{child_by, attached_of, told_by, GoesOn, GoesOnFrom}
-use Rattle.pm_worker.{specs.{declared.mail.MailTold.TheVariants.Aux, Mails.{IsKept, aux_mail}, Runs.IsAuxRun}, proofs.{Auxiliaries.{aux_kind, aux_well, aux_kept, same_run, aux_does}, Exits.{child_is, ends_as, may_exit, is_run, has_run, run_of}}}
+use Rattle.pm_board_life.specs.Lives.{LifeModel, beginning, child_by, attached_of, told_by, GoesOn, GoesOnFrom}
+use Rattle.pm_worker.{specs.{declared.mail.MailTold.{MailTold, TheVariants.Aux}, Mails.{IsKept, aux_mail}, Runs.IsAuxRun}, proofs.{Auxiliaries.{aux_kind, aux_well, aux_kept, same_run, aux_does}, Exits.{child_is, ends_as, may_exit, is_run, has_run, run_of}}}
 use Rattle.pm_worker.proofs.runs.tend_one.Goals as goal
 
 pub exit-requires-clause-runs : goal.exit-requires-clause-runs
@@ -10,7 +10,7 @@ exit-requires-clause-runs g c =
     let o = c.requires.started.offer in
     let life = c.tend-done.new.life in
     let same = c.into_post-post.ensures.post in
-    let on : GoesOn c.args.post life = subst (λ b. GoesOnFrom b life) c.requires.begun c.into_post-post.ensures.same in
+    let on : GoesOn (beginning c.args.post c.args.tools.now.seed) life = subst (λ b. GoesOnFrom b life) c.requires.begun c.into_post-post.ensures.same in
     let child : child_in at.knows.work ≡ Some o = ap (λ p. child_in p.knows.work) same ∙ on.child ∙ ap child_in c.requires.started.runs in
     let here = ap (λ p. (child_by p.knows.work).attached) (sym same) ∙ ap (λ ch. ch.attached) (child_is at.knows.work o c.into_post-post.ensures.living child) in
     may_exit at.knows.work o c.tend-done.result.status c.into_post-post.ensures.living child
@@ -22,7 +22,7 @@ exit-requires-clause-back g c p active ends =
     let o = c.requires.started.offer in
     let life = c.tend-done.new.life in
     let same = c.into_post-post.ensures.post in
-    let on : GoesOn c.args.post life = subst (λ b. GoesOnFrom b life) c.requires.begun c.into_post-post.ensures.same in
+    let on : GoesOn (beginning c.args.post c.args.tools.now.seed) life = subst (λ b. GoesOnFrom b life) c.requires.begun c.into_post-post.ensures.same in
     let child : child_in at.knows.work ≡ Some o = ap (λ q. child_in q.knows.work) same ∙ on.child ∙ ap child_in c.requires.started.runs in
     let kind = ap (λ q. q.kind) (ends_as at.knows.work o p active child ends) ∙ aux_kind c.args.kind o.kind c.requires.kind c.requires.started.fits in
     subst (λ (k : Kind). (is_auxiliary k ≡ true) × IsKept k c.tend-done.result.status c.tend-done.result.kept) (sym kind)
@@ -35,8 +35,10 @@ returns g c =
     let o = begun.offer in
     let life = c.tend-done.new.life in
     let same = c.into_post-post.ensures.post in
-    let on : GoesOn c.args.post (record { post = at; cancel = life.cancel }) =
-    subst (λ p. GoesOn c.args.post (record { post = p; cancel = life.cancel })) (sym same) (subst (λ b. GoesOnFrom b life) c.requires.begun c.into_post-post.ensures.same) in
+    let start = beginning c.args.post c.args.tools.now.seed in
+    let end : LifeModel MailTold = record { post = at; seed = life.seed; cancel = life.cancel } in
+    let on : GoesOn start end =
+    subst (λ p. GoesOn start (record { post = p; seed = life.seed; cancel = life.cancel })) (sym same) (subst (λ b. GoesOnFrom b life) c.requires.begun c.into_post-post.ensures.same) in
     let child : child_in at.knows.work ≡ Some o = on.child ∙ ap child_in begun.runs in
     let here = ap (λ p. (child_by p.knows.work).attached) (sym same) ∙ ap (λ ch. ch.attached) (child_is at.knows.work o c.into_post-post.ensures.living child) in
     let now = ap (λ p. told_by p.knows.notes.now life.cancel) (sym same) in
@@ -47,13 +49,13 @@ returns g c =
     let tools = c.args.tools.now in
     let back = Aux done.fault done.kept in
     let is = same_run c.args.kind stamp _ _ done _ _ _ _ noted pid now here c.tend-done.ensures.2 in
-    let does : IsAuxRun stamp c.args.kind (run_of at o done.status back life.cancel on.made noted) =
+    let does : IsAuxRun stamp c.args.kind (run_of on o done.status back noted) =
     record { fault = done.fault; kept = done.kept; attached = attached_of at.knows.work; back_is = refl; is = is; active = refl } in (
-      run_of at o done.status back life.cancel on.made noted,
+      run_of on o done.status back noted,
       c.tend-done.ensures.1,
-      is_run stamp tools.seed tools.conf.authentication_ms (g.C.Clock.gives tools.clock) c.args.post at life.cancel c.args.pid (aux_mail c.args.kind) begun on done.status back noted
+      is_run stamp tools.conf.authentication_ms (g.C.Clock.gives tools.clock) start end c.args.pid (aux_mail c.args.kind) begun on done.status back noted
           (aux_does stamp tools.seed tools.conf.authentication_ms (g.C.Clock.gives tools.clock) c.args.kind _ c.requires.kind does),
-      has_run c.args.post at c.exit.new.self life.cancel c.args.pid (aux_mail c.args.kind) begun on done.status back noted c.into_post-post.ensures.living c.exit.ensures.knows
+      has_run start end c.exit.new.self c.args.pid (aux_mail c.args.kind) begun on done.status back noted c.into_post-post.ensures.living c.exit.ensures.knows
           c.exit.ensures.table c.exit.ensures.slot,
       begun.given_is,
     )

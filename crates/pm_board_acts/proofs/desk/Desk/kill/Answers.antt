@@ -2,7 +2,7 @@ use Rattle.std.{proofs.Common.{sym, ap, ◌∙◌}, specs.Prelude.{not, is_some}
 use Rattle.pm_board.specs.declared.views.RosterView.{RosterView}
 use Rattle.pm_board.specs.declared.views.Signal.TheVariants as signal
 use Rattle.pm_supervisor_journal.specs.Supervision.{at_work}
-use Rattle.pm_board_acts.{specs.{declared.audience.Audience.TheVariants.One, Seating.sends, Standing.view, Board.seats_of}, proofs.{Asking.{killed_goes, none_killed}, Keeping.{adds_tells, keeps_stepped}, Sends.{same-slots, seats_same}, Reaping.reaped_stepped}}
+use Rattle.pm_board_acts.{specs.{declared.audience.Audience.TheVariants.One, Seating.sends, Standing.view, Board.seats_of}, proofs.{Asking.{killed_goes, none_killed}, Keeping.{adds_tells, keeps_stepped}, Sends.{same-limit, same-slots, seats_same}, Reaping.reaped_stepped}}
 use Rattle.pm_board_acts.proofs.desk.Desk.kill.Goals as goal
 
 pub returns-then-is_none-clause-kills : goal.returns-then-is_none-clause-kills
@@ -28,6 +28,12 @@ returns-clause-slots g c =
     let d = c.args.self.now.roster.knows in
     let ss = sends (One c.args.pid) signal.Kill d.generation (seats_of d) in
     ap (λ (v : RosterView _). v.slots) c.tell.ensures.knows ∙ same-slots d ss
+
+pub returns-clause-limit : goal.returns-clause-limit
+returns-clause-limit g c =
+    let d = c.args.self.now.roster.knows in
+    let ss = sends (One c.args.pid) signal.Kill d.generation (seats_of d) in
+    ap (λ (v : RosterView _). v.session_limit) c.tell.ensures.knows ∙ same-limit d ss
 
 pub returns-clause-past : goal.returns-clause-past
 returns-clause-past g c =

@@ -9,9 +9,9 @@ detach-requires g c =
     is_attached c.self.inside.pid c.in-Some.token c.self.inside.post.knows.work
     (subst (λ a. LivesAs c.self.inside.pid a c.self.inside.post.knows.work) (sym c.take.ensures.value ∙ c.in-Some.is) c.self.invariant.0)
 
-it : (g : given.Over) (c : goal.After-detach g) → Lets c.self.inside.pid c.self.inside.cancel c.self.inside.post c.detach.new.post
+it : (g : given.Over) (c : goal.After-detach g) → Lets c.self.inside.pid c.self.inside.seed c.self.inside.cancel c.self.inside.post c.detach.new.post
 it g c =
-    lets c.self.inside.pid c.in-Some.token c.self.inside.cancel c.self.inside.post c.detach.new.post
+    lets c.self.inside.pid c.in-Some.token c.self.inside.seed c.self.inside.cancel c.self.inside.post c.detach.new.post
     (subst (λ a. LivesAs c.self.inside.pid a c.self.inside.post.knows.work) (sym c.take.ensures.value ∙ c.in-Some.is) c.self.invariant.0)
     c.detach.ensures.table c.detach.ensures.slot c.detach.ensures.knows
 

@@ -10,7 +10,7 @@ pub invariant_of-self : goal.invariant_of-self
 invariant_of-self g c =
     let child = runs c.self.inside.pid c.self.inside.attached c.self.inside.post.knows.work c.self.invariant.0 in (
       subst (LivesAs c.self.inside.pid c.self.inside.attached) (sym c.take.ensures.work) c.self.invariant.0,
-      goes _ _ (takes c.take.result c.self.inside.cancel c.self.inside.post c.take.new.post child c.take.ensures.table c.take.ensures.slot c.take.ensures.work c.take.ensures.met) g.K.Begun.begun
+      goes _ _ (takes c.take.result c.self.inside.seed c.self.inside.cancel c.self.inside.post c.take.new.post child c.take.ensures.table c.take.ensures.slot c.take.ensures.work c.take.ensures.met) g.K.Begun.begun
           c.self.invariant.1,
     )
 

@@ -11,7 +11,7 @@ returns-in-Ok-clause-goes g c =
     let at = later c.now.result before.work.standing in
     let made = c.in-Ok.ensures.asks (PidsEnd at) (refl, refl) in
     λ outset was.
-    asked_on g.C.Clock.gives outset before now (leaves g.C.Clock.gives _ _ beside) refl refl (λ n has. has) (leaves_store g.C.Clock.gives _ _ beside (same_past g.C.Clock.gives _ _ beside made.2))
+    asked_on g.C.Clock.gives outset before now (leaves g.C.Clock.gives _ _ beside) refl refl (refl, λ n has. has) (leaves_store g.C.Clock.gives _ _ beside (same_past g.C.Clock.gives _ _ beside made.2))
     Smart c.now.result (PidsEnd at) c.now.ensures (λ s. refl) (λ k. refl)
     (asks_pids g.C.Clock.gives outset now before at refl refl refl (owes_paid _ _ c.requires.owed (ap (λ (s : Standing). s.owes_smart) made.1) (ap (λ (s : Standing). s.last_pid) made.1)))
     made.0 made.1 made.2 was

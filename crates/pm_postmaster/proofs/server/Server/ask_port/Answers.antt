@@ -1,15 +1,15 @@
-use Rattle.std.{proofs.Common.{◌≡◌, ◌⊎◌, inl, inr, ◌∙◌, ℕ, ◌+◌, Option, None, Some, ap, length, refl, subst, sym}, specs.Prelude.{IfSome, false, option_map}}
+use Rattle.std.{proofs.Common.{◌≡◌, ◌⊎◌, inl, inr, ◌∙◌, ℕ, ◌+◌, Option, None, Some, ap, length, refl, subst, sym}, specs.Prelude.{IfSome, false, is_some, option_map}}
 use Rattle.pm_board_acts.specs.{pm_board.declared.views.RosterView.RosterView, pm_supervisor_journal.{Standing.{Standing, later}, Supervision.at_work}, pm_modes.declared.Mode.TheVariants.Smart, Seating.PortEnds}
 use Rattle.pm_worker.specs.{pm_outside.{Visits.{Visits, after_accept}, declared.port.Accepted.Accepted}, declared.mail.MailTold.MailTold}
 use Rattle.pm_worker.specs.pm_outside.declared.port.Accepted.TheVariants as answers
-use Rattle.pm_postmaster.{specs.{Links.HasLinks, View.view_of}, proofs.{Admitted.{admitted_on, no_link, unused_at}, Asked.{has_come, owes_none}, Calling.{IsBeside, asks_end, leaves, leaves_store, same_past, short_end, still}, Cleared.near_slots, Steps.{LinksStay, asked_on}}}
+use Rattle.pm_postmaster.{specs.{Links.HasLinks, View.view_of}, proofs.{Admitted.{admitted_on, no_link, still_numbered, unused_at}, Asked.{has_come, owes_none}, Calling.{IsBeside, asks_end, leaves, leaves_store, same_past, short_end, still}, Cleared.near_slots, Steps.{LinksStay, asked_on}}}
 use Rattle.pm_postmaster.proofs.server.Server.ask_port.Goals as goal
 
 pub returns-in-Link-clause-goes : goal.returns-in-Link-clause-goes
 returns-in-Link-clause-goes g c =
     let before = view_of c.args.self.now in
     λ outset was.
-    admitted_on g.C.Clock.gives c.laws.ensures.counts outset before _ c.args.slot (g.L.Link.faults c.in-Link.link) _
+    admitted_on g.C.Clock.gives c.laws.ensures.counts outset before _ c.args.slot (g.L.Link.faults c.in-Link.link) _ c.args.decision c.requires.decision
     (record { table = c.admit.ensures.table; home = refl; tokens = refl; joined = refl; disk = refl; clock = refl; tells = c.admit.ensures.tells })
     refl refl (near_slots c.args.slot before.board c.requires.free.0)
     (unused_at g.C.Clock.gives c.laws.ensures.counts outset before c.args.slot c.requires.free.0 c.requires.free.1 was)
@@ -19,8 +19,8 @@ returns-in-Link-clause-goes g c =
 
 -- links stay where they are where the port's end has come
 stay_so : {L : Type 0} (faults : L → ℕ) (d : RosterView MailTold) (before now : Option Visits) → now ≡ option_map (λ v. after_accept faults v answers.End) before → LinksStay d before now
-stay_so faults d before now is n has =
-    subst (λ (x : Option Visits). IfSome x (HasLinks n d)) (sym is) (no_link faults n d before answers.End (λ link same. absurd (cc)) has)
+stay_so faults d before now is =
+    (ap is_some is ∙ still_numbered faults answers.End before, λ n has. subst (λ (x : Option Visits). IfSome x (HasLinks n d)) (sym is) (no_link faults n d before answers.End (λ link same. absurd (cc)) has))
 
 pub returns-in-Ok-clause-goes : goal.returns-in-Ok-clause-goes
 returns-in-Ok-clause-goes g c =

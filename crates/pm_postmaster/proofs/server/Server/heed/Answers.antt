@@ -15,9 +15,9 @@ returns-in-Nothing-clause-heeds g c = λ line lines given asked.
     let at = v.work.standing.moment in
     let beside : IsBeside g.C.Clock.gives before v = record { table = refl; shared = refl; clock = refl; log = refl; lost = refl; came = refl; tells = refl } in
     λ outset was.
-    unheeded_on g.C.Clock.gives outset before v (leaves g.C.Clock.gives _ _ beside) refl refl (λ n has. has) (leaves_store g.C.Clock.gives _ _ beside (same_past g.C.Clock.gives _ _ beside refl))
+    unheeded_on g.C.Clock.gives outset before v (leaves g.C.Clock.gives _ _ beside) refl refl (refl, λ n has. has) (leaves_store g.C.Clock.gives _ _ beside (same_past g.C.Clock.gives _ _ beside refl))
     line Nothing at refl (asks_line g.C.Clock.gives outset v v line lines Nothing at given (subst (λ r. AsksFor IsNumber line (meant r)) c.in-Nothing.is asked) (record { lines = refl; ended = refl; listens = refl }) (owes_same _ _ refl))
-    (c.laws.ensures.lines _ line Nothing at refl) refl refl was
+    (c.laws.ensures.lines _ line Nothing at refl) refl refl refl was
 
 pub returns-in-Ok-clause-heeds : goal.returns-in-Ok-clause-heeds
 returns-in-Ok-clause-heeds g c = λ line lines given asked.
@@ -29,7 +29,7 @@ returns-in-Ok-clause-heeds g c = λ line lines given asked.
     let how = c.in-Stop.mode in
     let made = c.in-Ok.ensures.asks (Reads line (Stop how) at) (refl, refl) in
     λ outset was.
-    asked_on g.C.Clock.gives outset before now (leaves g.C.Clock.gives _ _ beside) refl refl (λ n has. has) (leaves_store g.C.Clock.gives _ _ beside (same_past g.C.Clock.gives _ _ beside made.2))
+    asked_on g.C.Clock.gives outset before now (leaves g.C.Clock.gives _ _ beside) refl refl (refl, λ n has. has) (leaves_store g.C.Clock.gives _ _ beside (same_past g.C.Clock.gives _ _ beside made.2))
     how c.now.result (Reads line (Stop how) at) c.now.ensures (λ s. refl) (λ k. refl)
     (asks_line g.C.Clock.gives outset now v line lines (Stop how) at given (subst (λ r. AsksFor IsNumber line (meant r)) c.in-Stop.is asked) (record { lines = refl; ended = refl; listens = refl })
     (owes_none _ _ c.requires.idle.unowed (ap (λ (s : Standing). s.owes_smart) made.1) (ap (λ (s : Standing). s.last_pid) made.1)))
@@ -73,9 +73,9 @@ returns-in-Err-try_from-clause-heeds g c = λ line lines given asked.
     let nobody : asked_by (Kill pid) at (seats_of v.board) ≡ [] =
     subst (λ seats. asked_by (Kill pid) at seats ≡ []) (sym seated.at_hand)
     (none_killed pid at v.work.standing.last_pid seated.seating.seats seated.roll.below (far_off _ pid low (λ less. c.in-Err-try_from.ensures less))) in
-    unheeded_on g.C.Clock.gives outset before v (leaves g.C.Clock.gives _ _ beside) refl refl (λ n has. has) (leaves_store g.C.Clock.gives _ _ beside (same_past g.C.Clock.gives _ _ beside refl))
+    unheeded_on g.C.Clock.gives outset before v (leaves g.C.Clock.gives _ _ beside) refl refl (refl, λ n has. has) (leaves_store g.C.Clock.gives _ _ beside (same_past g.C.Clock.gives _ _ beside refl))
     line (Kill pid) at nobody (asks_line g.C.Clock.gives outset v v line lines (Kill pid) at given (subst (λ r. AsksFor IsNumber line (meant r)) c.in-Kill.is asked) (record { lines = refl; ended = refl; listens = refl }) (owes_same _ _ refl))
-    (c.laws.ensures.lines _ line (Kill pid) at nobody) refl refl was
+    (c.laws.ensures.lines _ line (Kill pid) at nobody) refl refl refl was
 
 pub kill-requires-clause-read : goal.kill-requires-clause-read
 kill-requires-clause-read g c = record {

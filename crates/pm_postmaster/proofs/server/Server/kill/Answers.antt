@@ -11,9 +11,9 @@ returns-in-Ok-clause-heeds g c = λ line lines given asked.
     let at = v.work.standing.moment in
     let beside : IsBeside g.C.Clock.gives before now = record { table = c.kill.ensures.table; shared = refl; clock = refl; log = refl; lost = refl; came = refl; tells = c.kill.ensures.tells } in
     λ outset was.
-    killed_on g.C.Clock.gives outset before now (leaves g.C.Clock.gives _ _ beside) refl refl (λ n has. has) (leaves_store g.C.Clock.gives _ _ beside c.kill.ensures.past)
+    killed_on g.C.Clock.gives outset before now (leaves g.C.Clock.gives _ _ beside) refl refl (refl, λ n has. has) (leaves_store g.C.Clock.gives _ _ beside c.kill.ensures.past)
     line c.args.pid at (asks_line g.C.Clock.gives outset now v line lines (Kill c.args.pid) at given asked (record { lines = refl; ended = refl; listens = refl }) (owes_same _ _ c.kill.ensures.standing))
-    (c.in-Ok.ensures.kills line at) c.kill.ensures.standing c.kill.ensures.slots was
+    (c.in-Ok.ensures.kills line at) c.kill.ensures.standing c.kill.ensures.slots c.kill.ensures.limit was
 
 pub returns-in-Err-clause-heeds : goal.returns-in-Err-clause-heeds
 returns-in-Err-clause-heeds g c = λ line lines given asked.

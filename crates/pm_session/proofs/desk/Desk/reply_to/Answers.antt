@@ -8,4 +8,4 @@ returns-clause-goes g c =
     let said = rw c.in_ok-answer.ensures.link at c.say_answer.ensures.says in
     rw (← c.self.view_is)
     (replied g.S.Store.notes (g.C.Clock.gives c.args.means.now.clock.now) (user_of (g.S.Store.stamp c.args.store.now) (g.S.Store.view c.args.pass.now)) c.args.text.now _ c.say_answer.result _ _ _ _ _ _ _ _ _ (ap (λ (at : Desk). at.outbox.bytes) c.self.view_is ∙ c.requires.empty)
-    c.in_ok-answer.ensures.notes c.in_ok-answer.ensures.fit c.in_ok-answer.ensures.slept c.in_ok-answer.ensures.hears said c.say_answer.ensures.empty)
+    c.in_ok-answer.ensures.notes c.in_ok-answer.ensures.fit c.in_ok-answer.ensures.slept c.in_ok-answer.ensures.uncancelled c.in_ok-answer.ensures.hears said c.say_answer.ensures.empty)

@@ -1,5 +1,5 @@
 use Rattle.std.proofs.Common.{ℕ, List, subst}
-use Rattle.pm_session_exchange.{specs.{Queries.Sleeps, Answers.turn_of}, proofs.{Attentions.hears_dropped, Sleeping.{fit_as, sleeps_unnoted, all_spelled}}}
+use Rattle.pm_session_exchange.{specs.{Queries.Sleeps, Answers.turn_of}, proofs.{Attentions.hears_dropped, Sleeping.{fit_as, unnoted, sleeps_unnoted, all_spelled}}}
 use Rattle.pm_child_life.proofs.AttentionLaws.{hears_both}
 use Rattle.pm_session_exchange.proofs.ear.Ear.answer_to.Goals as goal
 
@@ -21,3 +21,9 @@ returns-in-Err-clause-slept g c =
 
 pub returns-in-Ok-parse-clause-slept : goal.returns-in-Ok-parse-clause-slept
 returns-in-Ok-parse-clause-slept g c = all_spelled _ _ _ c.in-Ok-parse.script c.script_answer.result c.in-Ok.ensures.cases.0 c.in-Ok-parse.ensures.script c.script_answer.ensures.slept
+
+pub returns-in-Err-clause-uncancelled : goal.returns-in-Err-clause-uncancelled
+returns-in-Err-clause-uncancelled g c = λ whole. absurd (unnoted 0 _ _ (c.faulted.ensures.notes 0) whole)
+
+pub returns-in-Ok-parse-clause-uncancelled : goal.returns-in-Ok-parse-clause-uncancelled
+returns-in-Ok-parse-clause-uncancelled g c = rw c.drop_cancel.ensures at c.script_answer.ensures.uncancelled

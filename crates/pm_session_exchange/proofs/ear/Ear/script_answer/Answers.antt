@@ -1,5 +1,5 @@
 use Rattle.pm_child_life.proofs.AttentionLaws.{hears_both, hears_fewer}
-use Rattle.pm_session_exchange.proofs.{Sleeping.all_slept, Noted.fits_earlier}
+use Rattle.pm_session_exchange.proofs.{Signals.slept_uncancelled, Sleeping.all_slept, Noted.fits_earlier}
 use Rattle.pm_session_exchange.proofs.ear.Ear.script_answer.Goals as goal
 
 pub returns-in-Whole-clause-fit : goal.returns-in-Whole-clause-fit
@@ -10,5 +10,10 @@ returns-in-Whole-clause-hears g c = hears_fewer 0 1 _ _ (hears_both 1 0 _ _ _ c.
 
 pub returns-in-Whole-clause-slept : goal.returns-in-Whole-clause-slept
 returns-in-Whole-clause-slept g c =
-    let waited = rw (c.in-Whole.is, c.sleep_seconds.ensures) at c.in_ok-sleep.ensures.goes in
-    all_slept _ c.args.script.now c.run.result waited
+    let goes = rw (c.in-Whole.is, c.sleep_seconds.ensures) at c.in_ok-sleep.ensures.goes in
+    all_slept _ c.args.script.now c.run.result goes.0
+
+pub returns-in-Whole-clause-uncancelled : goal.returns-in-Whole-clause-uncancelled
+returns-in-Whole-clause-uncancelled g c =
+    let goes = rw c.in-Whole.is at c.in_ok-sleep.ensures.goes in
+    slept_uncancelled c.run.result _ _ _ c.sleep.ensures.hears goes.1 c.run.ensures.hears

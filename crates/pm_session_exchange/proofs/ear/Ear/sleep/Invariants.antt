@@ -1,5 +1,5 @@
-use Rattle.pm_child_life.specs.Attention.{Hears}
+use Rattle.pm_child_life.specs.{Life.Cancel, Attention.{Hears, GivenNoMore}}
 use Rattle.pm_session_exchange.proofs.ear.Ear.sleep.Given as goal
 
 abbrev pub invariant-loop : goal.invariant-loop
-invariant-loop g l = record { hears : Hears 0 l.fn.self l.self }
+invariant-loop g l = record { hears : Hears 0 l.fn.self l.self; uncancelled : GivenNoMore Cancel l.fn.self.told l.self.told }
