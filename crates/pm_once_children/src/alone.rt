@@ -70,6 +70,8 @@ impl<'a, D: Disk, B: Chronicle<BookEntry>> Store for Alone<'a, D, B> {
 
     ghost met = { λ alone. (moment alone.store.now).generation };
 
+    ghost learned = { λ alone fact. Unit {0} };
+
     fn enter(&mut self, pid: u32, generation: u32) -> Result<Pass, StoreNo> {
         self.store.enter(pid, generation)
     }
@@ -124,4 +126,6 @@ impl<'a, D: Disk, B: Chronicle<BookEntry>> Store for Alone<'a, D, B> {
 
     ghost rises = { λ before now entries did.
         meets entries before.work now.work (moment before.store.now) (moment now.store.now) did.1 };
+
+    ghost keeps = { λ before now entries did fact one. one };
 }

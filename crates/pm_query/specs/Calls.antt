@@ -1,7 +1,7 @@
 -- What a store's calls note, by what they answer.
 use Rattle.std.specs.Prelude.{◌≡◌, ◌≢◌, ◌⊎◌, ◌≤◌, ◌<◌, ◌↔◌, ◌++◌, ℕ, Bool, true, false, List, [], ◌∷◌, Option, None, Some, Result, Ok, Err, IsTrue}
+use Rattle.pm_record.specs.{pm_rows.declared.commit.Change.Change, declared.fault.RedoFault.RedoFault}
 use Rattle.pm_record.specs.declared.fault.RedoFault.TheVariants as redo
-use Rattle.pm_record.specs.pm_rows.declared.commit.Change.{Change}
 use Rattle.pm_sql.specs.declared.stmt.Stmt.{Stmt}
 use Rattle.pm_query.specs.{Answer.Writes, declared.{item.Item.Item, book.BookEntry.{BookEntry, TheVariants.{Attached, Redone, Answered, Released, Detached, CheckpointEnded, Broke, LogFull}}, store.{Staged.Staged, Seen.{Seen, TheVariants.{Released as CanBeSent, NotFlushed}}, Checkpointed.{Checkpointed, TheVariants.{Done, Skipped, NotDue}}, StoreNo.{StoreNo, TheVariants.{Stale, Disk, Broken, Full, Redo, NoMemory}}}}}
 
@@ -72,6 +72,20 @@ MetAnother met generation _ = Unit {0}
 abbrev pub MetLater : {T : Type 0} → (met generation : ℕ) → Result T StoreNo → Type 0
 MetLater met generation (Err (Stale mine found)) = (mine ≡ generation) × (found ≡ met) × IsPast met generation
 MetLater met generation _ = Unit {0}
+
+-- ---- what is learned of the disk
+
+-- why the log can't be read, or up to where it is flushed
+pub data DiskFact : Type 0 where
+  unread_for : RedoFault → DiskFact
+  flushed_to : ℕ → DiskFact
+
+-- a redo that is refused for a reason learns it, and a flush how far it came
+abbrev pub LearnsReason : (learned : DiskFact → Type 0) → Result ℕ StoreNo → Type 0
+LearnsReason learned result = (fault : RedoFault) → result ≡ Err (Redo fault) → learned (unread_for fault)
+
+abbrev pub LearnsFront : (learned : DiskFact → Type 0) → Result ℕ StoreNo → Type 0
+LearnsFront learned result = (front : ℕ) → result ≡ Ok front → learned (flushed_to front)
 
 -- ---- what the calls note
 

@@ -1,6 +1,6 @@
 //! What a child asks of the store.
 ghost use Rattle.std.specs.Prelude.{◌≡◌, ◌≤◌, ◌⊎◌, ◌++◌, ◌∷◌, [], ℕ, List, Option, All, IfOk, OnErr};
-ghost use Rattle.pm_query.specs.{declared.{book.BookEntry.{BookEntry, TheVariants.Detached}, store.StoreNo.TheVariants.{Disk, NoMemory}}, Calls.{PassView, user_of, newcomer, new_pass, with_front, ReachesNoLess, HasReached, IsPast, MetAnother, MetLater, EnterNotes, RunNotes, SeenNotes, FlushNotes, RedoNotes, CheckpointNotes, LeaveNotes}, Limits.HasShortValues};
+ghost use Rattle.pm_query.specs.{declared.{book.BookEntry.{BookEntry, TheVariants.Detached}, store.StoreNo.TheVariants.{Disk, NoMemory}}, Calls.{DiskFact, LearnsFront, LearnsReason, PassView, user_of, newcomer, new_pass, with_front, ReachesNoLess, HasReached, IsPast, MetAnother, MetLater, EnterNotes, RunNotes, SeenNotes, FlushNotes, RedoNotes, CheckpointNotes, LeaveNotes}, Limits.HasShortValues};
 
 use crate::book::BookEntry;
 use crate::reply::Reply;
@@ -105,6 +105,9 @@ pub trait Store {
     /// The last generation that its own calls have met it in, whoever brought it there.
     ghost met: { Self → ℕ };
 
+    /// What its own calls have learned of its disk.
+    ghost learned: { Self → DiskFact → Type 0 };
+
     /// Lets a child in, and keeps room for the entry of its leave.
     fn enter(&mut self, pid: u32, generation: u32) -> Result<Self::Pass, StoreNo>
         ensures notes { (entries : List BookEntry) × notes entries self.old self.new
@@ -145,7 +148,8 @@ pub trait Store {
             × FlushNotes (user_of (stamp self.old) (view pass.old)) result entries }
         ensures admits { admits self.new pass.new }
         ensures view { view pass.new ≡ view pass.old }
-        ensures stale { MetLater (met self.new) (view pass.old).generation result };
+        ensures stale { MetLater (met self.new) (view pass.old).generation result }
+        ensures learned { LearnsFront (learned self.new) result };
 
     /// Reads the log, and answers how many commits stand. Where it was read in this generation already, it answers that
     /// number again.
@@ -155,7 +159,8 @@ pub trait Store {
             × RedoNotes (user_of (stamp self.old) (view pass.old)) result entries }
         ensures admits { admits self.new pass.new }
         ensures view { view pass.new ≡ view pass.old }
-        ensures stale { MetLater (met self.new) (view pass.old).generation result };
+        ensures stale { MetLater (met self.new) (view pass.old).generation result }
+        ensures learned { LearnsReason (learned self.new) result };
 
     /// Writes all rows as the base of the log's other file, where redo has ended in this generation. A clean one is the
     /// last: no changes are committed after it. Any other is made once so many bytes of batches stand after the base
@@ -188,4 +193,8 @@ pub trait Store {
 
     /// A generation that it has met is met for good: what is past stays past.
     ghost rises: { (before now : Self) (entries : List BookEntry) → notes entries before now → met before ≤ met now };
+
+    /// Nor is what it has learned forgotten.
+    ghost keeps: { (before now : Self) (entries : List BookEntry) → notes entries before now
+        → (fact : DiskFact) → learned before fact → learned now fact };
 }

@@ -125,6 +125,8 @@ impl<B: Chronicle<BookEntry>> Store for MemStore<B> {
 
     ghost met = { λ _. 1 };
 
+    ghost learned = { λ _ _. Unit {0} };
+
     fn enter(&mut self, pid: u32, generation: u32) -> Result<MemPass, StoreNo> {
         if generation != GENERATION {
             return Err(StoreNo::Stale {
@@ -257,6 +259,8 @@ impl<B: Chronicle<BookEntry>> Store for MemStore<B> {
     ghost stays = { λ before now entries one. refl };
 
     ghost rises = { λ before now entries one. same_number 1 };
+
+    ghost keeps = { λ before now entries one fact nothing. nothing };
 }
 
 impl<B: Chronicle<BookEntry>> MemStore<B> {

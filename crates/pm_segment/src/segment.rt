@@ -62,9 +62,9 @@ pub struct Segment<D: Disk, B: Chronicle<BookEntry>> {
 pub type Sole<D, B> = Segment<D, B>;
 
 impl<D: Disk, B: Chronicle<BookEntry>> Segment<D, B> {
-    ghost use Rattle.std.specs.Prelude.{[], ◌∷◌, Some, IfOk, IfErr};
+    ghost use Rattle.std.specs.Prelude.{[], ◌∷◌, Some, IfOk, IfErr, option_map};
     ghost use Rattle.pm_query.specs.declared.book.BookEntry.{BookEntry};
-    ghost use Rattle.pm_segment.specs.{Moment.{book_of, disk_of, moment}, Redos.is_broken, Stands.WaitsFrom};
+    ghost use Rattle.pm_segment.specs.{Fronts.flushed_of, Moment.{book_of, disk_of, moment}, Redos.is_broken, Stands.WaitsFrom};
     ghost use Rattle.pm_outside.specs.Added.{Added};
 
     /// A store in its first generation, which has no rows before its redo. Where memory is short disk and book come back.
@@ -125,6 +125,13 @@ impl<D: Disk, B: Chronicle<BookEntry>> Segment<D, B> {
         }
     }
 
+    /// How many commits its log has flushed, once it was read in this generation.
+    pub fn flushed(&self) -> Option<u64>
+        ensures { result ≡ option_map flushed_of (moment self.now).live }
+    {
+        self.live.map(|live| live.log.count)
+    }
+
     /// Gives the disk and the book back. It takes no memory.
     pub fn into_parts(self) -> (D, B)
         ensures { (result.0 ≡ disk_of self) × (result.1 ≡ book_of self) }
@@ -147,7 +154,7 @@ impl<D: Disk, B: Chronicle<BookEntry>> Segment<D, B> {
 
 impl<D: Disk, B: Chronicle<BookEntry>> Store for Segment<D, B> {
     ghost use Rattle.std.{proofs.Common.{Some, ap}, specs.Prelude.{◌≡◌, ◌⊎◌, ◌∷◌, [], All, List, IfOk, OnOk, OnErr}};
-    ghost use Rattle.pm_query.specs.{declared.{book.BookEntry.BookEntry, store.StoreNo.StoreNo}, Calls.{CheckpointNotes, EnterNotes, FlushNotes, HasReached, IsPast, LeaveNotes, MetAnother, MetLater, ReachesNoLess, RedoNotes, RunNotes, SeenNotes, new_pass, newcomer, with_front}, Limits.HasShortValues};
+    ghost use Rattle.pm_query.specs.{declared.{book.BookEntry.BookEntry, store.StoreNo.StoreNo}, Calls.{CheckpointNotes, EnterNotes, FlushNotes, HasReached, IsPast, LearnsFront, LearnsReason, LeaveNotes, MetAnother, MetLater, ReachesNoLess, RedoNotes, RunNotes, SeenNotes, new_pass, newcomer, with_front}, Limits.HasShortValues};
     ghost use Rattle.pm_segment.specs.{Causes.{MakesNoCall, RunCause, SeenCause, staged_behind}, Flushes.{FlushCause, FlushesAll, WritesNothing}, Moment.{HasDiskOf, HasLogOf, disk_of, moment}, Moves.Moves, MovesLaws.{moves_none, moves_on, never_falls}, Passes.{Admits, user_in, view_of}, Redos.{CheckpointCause, FullAtLast, GoesOnAsFound, HasReason, IsRead, LeavesFiles, LeavesUnread, MadeAfresh, MakesCalls}};
 
     type Pass = Pass;
@@ -161,6 +168,8 @@ impl<D: Disk, B: Chronicle<BookEntry>> Store for Segment<D, B> {
     ghost stamp = { λ store. Some (moment store).generation };
 
     ghost met = { λ store. (moment store).generation };
+
+    ghost learned = { λ store fact. Unit {0} };
 
     fn enter(&mut self, pid: u32, generation: u32) -> Result<Pass, StoreNo>
         ensures notes { (entries : List BookEntry) × Moves entries (moment self.old)
@@ -267,6 +276,7 @@ impl<D: Disk, B: Chronicle<BookEntry>> Store for Segment<D, B> {
         ensures admits { Admits pass.new (moment self.new) }
         ensures view { view_of pass.new ≡ view_of pass.old }
         ensures stale { MetLater (moment self.new).generation pass.old.generation result }
+        ensures learned { LearnsFront (λ fact. Unit {0}) result }
 
         ensures cause { FlushCause (moment self.old) (moment self.new) result }
         ensures rest { WritesNothing (moment self.old).staged result → HasLogOf self.old self.new }
@@ -291,6 +301,7 @@ impl<D: Disk, B: Chronicle<BookEntry>> Store for Segment<D, B> {
         ensures admits { Admits pass.new (moment self.new) }
         ensures view { view_of pass.new ≡ view_of pass.old }
         ensures stale { MetLater (moment self.new).generation pass.old.generation result }
+        ensures learned { LearnsReason (λ fact. Unit {0}) result }
 
         ensures read { OnOk result (IsRead (moment self.new).live) }
         ensures again { IsRead (moment self.old).live → HasDiskOf self.old self.new }
@@ -377,6 +388,8 @@ impl<D: Disk, B: Chronicle<BookEntry>> Store for Segment<D, B> {
     ghost stays = { λ before now entries moves. ap (λ n. Some n) moves.generation };
 
     ghost rises = { λ before now entries moves. never_falls (moment before).generation (moment now).generation moves.generation };
+
+    ghost keeps = { λ before now entries moves fact one. one };
 }
 
 impl<D: Disk, B: Chronicle<BookEntry>> Segment<D, B> {

@@ -1,9 +1,9 @@
 -- What a token's calls owe as they give the store back, and what they come to.
-use Rattle.std.{proofs.{Common.{◌≡◌, ◌≢◌, ◌⊎◌, inl, inr, ℕ, ◌+◌, ◌-◌, ◌<◌, ◌≤◌, ◌==◌, ◌&&◌, Bool, true, false, cond, List, [], ◌∷◌, ◌++◌, length, Option, None, Some, refl, sym, ◌∙◌, ap, subst, arith, append-nil}, lemmas.{Bool.{Decides.nat_tests, eq-eqb}, List.Quantifiers.Any-push}}, specs.Prelude.{Result, Ok, Err, OnErr, IfOk, IfSome, Any, nat_eq}}
-use Rattle.pm_query.specs.{pm_facts.Bools.never_both, pm_sql.declared.stmt.Stmt.Stmt, declared.{book.BookEntry.{BookEntry, TheVariants.{Answered, Attached, Detached}}, store.{Staged.Staged, StoreNo.{StoreNo, TheVariants.{Stale, Disk, Broken, Full, Redo, NoMemory}}}}, Book.{AnswersUpTo, generation_of, present, times_attached}, Calls.{PassView, EnterNotes, NotesFault, NotesLostAnswer, RunNotes, LeaveNotes, new_pass, newcomer, user_of, with_front}, pm_disk.Files.Files}
+use Rattle.std.{proofs.{Common.{◌≡◌, ◌≢◌, ◌⊎◌, inl, inr, ℕ, ◌+◌, ◌-◌, ◌<◌, ◌≤◌, ◌==◌, ◌&&◌, Bool, true, false, cond, List, [], ◌∷◌, ◌++◌, length, Option, None, Some, refl, sym, ◌∙◌, ap, subst, arith, append-nil}, lemmas.{Bool.{Decides.nat_tests, eq-eqb}, List.Quantifiers.Any-push}}, specs.Prelude.{Result, Ok, Err, OnErr, IfOk, Any, nat_eq}}
+use Rattle.pm_query.specs.{pm_sql.declared.stmt.Stmt.Stmt, declared.{book.BookEntry.{BookEntry, TheVariants.{Answered, Attached, Detached}}, store.{Staged.Staged, StoreNo.{StoreNo, TheVariants.{Stale, Disk, Broken, Full, Redo, NoMemory}}}}, Book.{AnswersUpTo, generation_of, present, times_attached}, Calls.{PassView, EnterNotes, NotesFault, NotesLostAnswer, RunNotes, LeaveNotes, new_pass, newcomer, user_of, with_front}}
 use Rattle.atomic_table.specs.Seated.{TableId}
-use Rattle.pm_segment.specs.{declared.{pass.Pass.Pass, segment.Segment.Segment}, Moment.moment, Moves.Moves, Passes.{Admits, HasAnswer, view_of}, Redos.HasReason, Unread.has_break}
-use Rattle.pm_store_shared.{specs.{Reasons.HasFirstReason, declared.views.{Noted.Noted, Taken.Taken, Hand.Hand, View.{View, TheVariants.Worker}}, Behind.{Behind, Knows}, Grows.{Grew, NotesLeave, passes_entered}, GrowsLaws.entries_noted, Log.{AllOwn, Continues, noted_from}, Passes.{Among, live, renewed_pass, without_pass}, Quiet.AllQuiet, Rule.taken, Told.{HandMay, IsNothing, MayGive, Seated, Tells, TokenModel, TookFor, Turns, first_of, given_back, is_own_of, passes_of, past_of, resting, with_held, TellsHand}}, proofs.{Logs.{among_live, among-snoc, among_up_to, known_at, known_less, known_on, known_snoc, live-less, live-snoc, up_to-less, up_to-snoc}, Stores.{admits_known, answer_on, behind_moves, generation_on, knows_moves, present_on, quiet_own, quiet_times, times_on}}}
+use Rattle.pm_segment.specs.{declared.{pass.Pass.Pass, segment.Segment.Segment}, Moment.moment, Moves.Moves, Passes.{Admits, HasAnswer, view_of}}
+use Rattle.pm_store_shared.{specs.{declared.views.{Noted.Noted, Taken.Taken, Hand.Hand, View.{View, TheVariants.Worker}}, Behind.{Behind, Knows}, Grows.{Grew, NotesLeave, passes_entered}, GrowsLaws.entries_noted, Log.{AllOwn, Continues, noted_from}, Passes.{Among, live, renewed_pass, without_pass}, Quiet.AllQuiet, Rule.taken, Told.{HandMay, IsNothing, MayGive, Seated, Tells, TokenModel, TookFor, Turns, first_of, given_back, is_own_of, passes_of, past_of, resting, with_held, TellsHand}}, proofs.{Logs.{among_live, among-snoc, among_up_to, known_at, known_less, known_on, known_snoc, live-less, live-snoc, up_to-less, up_to-snoc}, Stores.{admits_known, answer_on, behind_moves, generation_on, knows_moves, present_on, quiet_own, quiet_times, times_on}}}
 
 -- ---- what the calls note
 
@@ -176,17 +176,33 @@ pub record IsStale {F : Type 0} (pass : Pass) (refusal : StoreNo) (old now : Tok
   pub refusal_is : refusal ≡ Stale pass.generation (generation_of now.past)
   pub later : pass.generation < generation_of now.past
 
-pub stale_told : {D B : Type 0} {g h : _} {past : List BookEntry} (k : ℕ) (first : D) (own : List Noted) (ps : List Pass) (id id' : TableId) (me me' : Seated (Segment D B g h) D) (old : TokenModel D) (pass : Pass) (refusal : StoreNo)
-    → token_of (Segment D B g h) D id k me ≡ old → id' ≡ id → me ≡ resting k first own ps past → Among pass ps → TookFor Behind Knows (λ x. (moment x).generation) pass me (Err refusal) me' → IsStale pass refusal old (token_of (Segment D B g h) D id' k me')
-stale_told {D} {B} {g} {h} {past} k first own ps id id' me me' old pass refusal view same is in_ (log, x, was, tells, other, refused) =
+-- a call that gave the store back as it was taken leaves them too
+pub record IsKept {F : Type 0} (log : List BookEntry) (old now : TokenModel F) : Type 0 where
+  pub grew : Grew [] old now
+  pub passes : now.passes ≡ old.passes
+  pub past : now.past ≡ log
+
+pub kept_told : {D B : Type 0} {g h : _} {past : List BookEntry} (k : ℕ) (first : D) (own : List Noted) (ps : List Pass) (log : List BookEntry) (x : Segment D B g h) (id id' : TableId) (me me' : Seated (Segment D B g h) D) (old : TokenModel D)
+    → token_of (Segment D B g h) D id k me ≡ old → id' ≡ id → me ≡ resting k first own ps past → me' ≡ (given_back (with_held me.0 (Some (taken log x))) [] (passes_of me.0), []) → Tells Behind Knows me.0 (taken log x)
+    → IsKept log old (token_of (Segment D B g h) D id' k me')
+kept_told {D} {B} {g} {h} k first own ps log x id id' me me' old view same is was tells =
     let held : Seated (Segment D B g h) D = (with_held me.0 (Some (taken log x)), (0, None) ∷ []) in
     let given = given_is k first own ps (passes_of me.0) (taken log x) [] me held me' ((0, None) ∷ []) [] is refl was in
-    let past_now : past_of me'.0 ≡ log = past_is k first (own ++ noted_from (length log) []) (passes_of me.0) me' given in
     record {
       grew = grew_by id id' k first own ps (passes_of me.0) (length log) [] me me' old view same is given (past_goes_on k first own ps log x me is tells);
       passes = passes_are k first (own ++ noted_from (length log) []) (passes_of me.0) me' given ∙ ap (λ (t : TokenModel D). t.passes) view;
-      refusal_is = refused ∙ ap (λ n. Stale pass.generation n) (sym (met_there k first own ps log x me is tells) ∙ ap generation_of (sym past_now));
-      later = subst (λ l. pass.generation < generation_of l) (sym past_now) (met_later k first own ps log x me pass is tells in_ other);
+      past = past_is k first (own ++ noted_from (length log) []) (passes_of me.0) me' given;
+    }
+
+pub stale_told : {D B : Type 0} {g h : _} {past : List BookEntry} (k : ℕ) (first : D) (own : List Noted) (ps : List Pass) (id id' : TableId) (me me' : Seated (Segment D B g h) D) (old : TokenModel D) (pass : Pass) (refusal : StoreNo)
+    → token_of (Segment D B g h) D id k me ≡ old → id' ≡ id → me ≡ resting k first own ps past → Among pass ps → TookFor Behind Knows (λ x. (moment x).generation) pass me (Err refusal) me' → IsStale pass refusal old (token_of (Segment D B g h) D id' k me')
+stale_told k first own ps id id' me me' old pass refusal view same is in_ (log, x, was, tells, other, refused) =
+    let kept = kept_told k first own ps log x id id' me me' old view same is was tells in
+    record {
+      grew = kept.grew;
+      passes = kept.passes;
+      refusal_is = refused ∙ ap (λ n. Stale pass.generation n) (sym (met_there k first own ps log x me is tells) ∙ ap generation_of (sym kept.past));
+      later = subst (λ l. pass.generation < generation_of l) (sym kept.past) (met_later k first own ps log x me pass is tells in_ other);
     }
 
 -- what a token shows after a call that renews its pass
@@ -218,27 +234,7 @@ rests_again {S} {F} k first own ps ps' t es me me' me'' c is was now =
     now ∙ ap (λ (m : Seated S F). (given_back m.0 es ps', [])) was ∙ ap (λ (m : Seated S F). (given_back (with_held m.0 (Some t)) es ps', [])) is in
     rests ∙ ap (λ (m : Seated S F). resting k first (is_own_of m.0) (passes_of m.0) (past_of m.0)) (sym rests)
 
--- ---- why a redo is refused
-
-first_reason : {D B : Type 0} {g h : _} (first : D) (log : List BookEntry) (x : Segment D B g h) (result : Result ℕ StoreNo) → Behind first log x → HasReason (moment x).files result → HasFirstReason log (g.seen first) result
-first_reason {g = g} first log x result behind reason = λ whole none. elim (behind.unread none).1 as (λ _. HasReason (g.seen first) result) [
-  | inl breaks ↦ absurd (never_both (has_break log) breaks whole)
-  | inr same ↦ subst (λ f. HasReason f result) same reason
-]
-
-pub redo_reason : {D B : Type 0} {g h : _} {past : List BookEntry} (k : ℕ) (first : D) (own : List Noted) (ps : List Pass) (log : List BookEntry) (x : Segment D B g h) (id : TableId) (me : Seated (Segment D B g h) D) (old : TokenModel D) (first_now : Option D) (past_now : List BookEntry)
-    (result : Result ℕ StoreNo) → token_of (Segment D B g h) D id k me ≡ old → me ≡ resting k first own ps past → Tells Behind Knows me.0 (taken log x) → HasReason (moment x).files result → first_now ≡ old.first → past_now ≡ log
-    → IfSome first_now (λ f. HasFirstReason past_now (g.seen f) result)
-redo_reason {D} {B} {g} {h} k first own ps log x id me old first_now past_now result view is tells reason same past_is =
-    let tells' = (subst (λ (m : Seated (Segment D B g h) D). Tells Behind Knows m.0 (taken log x)) is tells).0 in
-    let first_is : first_now ≡ Some first = same ∙ ap (λ (t : TokenModel D). t.first) (sym view) ∙ ap (λ (m : Seated (Segment D B g h) D). first_of m.0) is in
-    subst (λ (o : Option D). IfSome o (λ f. HasFirstReason past_now (g.seen f) result)) (sym first_is)
-    (subst (λ l. HasFirstReason l (g.seen first) result) (sym past_is) (first_reason first log x result tells'.0 reason))
-
--- a stale pass was refused by no redo
-pub stale_reason : {D : Type 0} (seen : D → Option Files) (o : Option D) (past : List BookEntry) (mine found : ℕ) (refusal : StoreNo) → refusal ≡ Stale mine found → IfSome o (λ f. HasFirstReason past (seen f) (Err refusal))
-stale_reason seen None past mine found refusal is = tt
-stale_reason seen (Some f) past mine found refusal is = λ whole none fault redo. absurd (cc)
+-- ---- a call of a pass that is admitted
 
 pub token_admits : {D B : Type 0} {g h : _} {past : List BookEntry} (k : ℕ) (first : D) (own : List Noted) (ps : List Pass) (log : List BookEntry) (x : Segment D B g h) (me : Seated (Segment D B g h) D) (p : Pass)
     → me ≡ resting k first own ps past → Tells Behind Knows me.0 (taken log x) → Among p ps → p.generation ≡ (moment x).generation → Admits p (moment x)

@@ -1,5 +1,5 @@
 -- The shared side when all tokens are joined.
-use Rattle.std.{proofs.{Common.{◌≡◌, ⊎_elim, ℕ, ◌+◌, ◌<◌, List, [], ◌∷◌, ◌++◌, map, length, length-append, sym, refl, ap, ◌∙◌, subst, arith}, lemmas.Option.same_Some}, specs.Prelude.{Some, IfSome, slice_get}}
+use Rattle.std.{proofs.{Common.{◌≡◌, ⊎_elim, ℕ, ◌+◌, ◌<◌, List, [], ◌∷◌, ◌++◌, map, length, length-append, sym, refl, ap, ◌∙◌, subst, arith}}, specs.Prelude.{Some, IfSome, slice_get}}
 use Rattle.atomic_table.specs.Seated.{TableId}
 use Rattle.pm_segment.specs.{pm_query.declared.book.BookEntry.BookEntry, declared.pass.Pass.Pass}
 use Rattle.pm_store_shared.{specs.{declared.views.{Joined.Joined, Noted.Noted, Taken.Taken}, Log.IsShuffle, Places.EachOnce, Told.{AllContinue, AreNewTokens, AreShares, AreTokens, owns, pasts, new_token, shared_with, Seated, SharedModel, TokenModel, Tells, desk_resting, first_of, generation_in, is_own_of, joined_of}}, proofs.{Keeps.got_end, Places.each_once}}

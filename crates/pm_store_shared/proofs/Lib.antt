@@ -4,6 +4,7 @@ pub mod Ending
 pub mod Ends
 pub mod Gives
 pub mod Keeps
+pub mod Learns
 pub mod Logs
 pub mod Others
 pub mod Places

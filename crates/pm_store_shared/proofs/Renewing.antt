@@ -1,5 +1,5 @@
 -- From one generation to the next.
-use Rattle.std.{proofs.{Common.{◌≡◌, ◌⊎◌, inl, inr, ℕ, zero, suc, ◌+◌, ◌<◌, ◌≤◌, ◌&&◌, Bool, true, false, cond, List, [], ◌∷◌, ◌++◌, All, map, Option, None, Some, refl, sym, ◌∙◌, ap, subst, arith, append-nil}, lemmas.{Bool.Decides.nat_tests, List.{Elements.{All-nil, All-cons, All-append}, Sums.{fold-append, sum_by-append, sum_by-cons}}}}, specs.{Prelude.{Result, Ok, Err, OnErr, OnOk, fold, nat_eq, nat_lt}, declared.alloc.AllocError.AllocError}}
+use Rattle.std.{proofs.{Common.{◌≡◌, ◌⊎◌, inl, inr, ℕ, zero, suc, ◌+◌, ◌<◌, ◌≤◌, ◌&&◌, Bool, true, false, cond, List, [], ◌∷◌, ◌++◌, All, map, Option, None, Some, refl, sym, ◌∙◌, ap, subst, arith, append-nil}, lemmas.{Bool.Decides.nat_tests, List.{Elements.{All-append}, Sums.{fold-append, sum_by-append, sum_by-cons}}}}, specs.{Prelude.{Result, Ok, Err, OnErr, OnOk, fold, nat_eq, nat_lt}, declared.alloc.AllocError.AllocError}}
 use Rattle.atomic_table.specs.Seated.{TableId}
 use Rattle.pm_segment.specs.{pm_query.{pm_facts.Numbers.{sum_below, sum_zero}, declared.book.BookEntry.{BookEntry, TheVariants.{Gone, Opened}}, Book.{generation_after, generation_of, times_attached}}, declared.segment.Segment.Segment, Children.{AreOthers, IsAttendedBy, once, times_behind, times_in}, Moment.{Moment, disk_of, moment}, Moves.{IsAsBefore, IsShown, Moves, Renews}, MovesLaws.{begins_on, moves_none, renewal_shown}, Stands.{Begins, Origin, WaitsFrom}, Unread.has_break, UnreadLaws.{break_before, redo_parts}, Renewal.renewal}
 use Rattle.pm_store_shared.{specs.{declared.views.{Joined.Joined, Noted.Noted, Desk.Desk, Taken.Taken, View.{View, TheVariants.Master}}, Behind.{Behind, Knows}, Log.{NoneOwn, all_behind}, Passes.{AllUpTo, live}, Renewed.{AreApart, AreAttached, RenewNotes}, Rule.{AreCounted, taken}, Told.{DeskMay, HasRenewed, MayGive, Resets, Seated, SharedModel, Tells, desk_resting, first_of, generation_in, given_back, is_own_of, joined_of, log_held, with_held}}, proofs.{Closing.shown, Logs.{known_later, known_on, none_live, up_to_more}, Stores.{behind_moves, knows_moves, times_on, told_on}}}

@@ -1,6 +1,6 @@
 -- What a store's calls make of what holds of it.
-use Rattle.std.{proofs.{Common.{◌≡◌, ◌⊎◌, inl, inr, ℕ, ◌≤◌, true, false, List, [], ◌∷◌, ◌++◌, Option, None, Some, refl, sym, ◌∙◌, ap, subst, arith, append_assoc, append-nil, length-append}, lemmas.{Bool.false≢true, Grind.common_steps, List.{Elements.{All-append, All-weaker}, Sums.fold-append}}}, specs.Prelude.{IfSome, Any, fold}}
-use Rattle.pm_segment.specs.{pm_query.{pm_facts.Lists.Any-append, declared.book.BookEntry.{BookEntry, TheVariants.{Opened, Attached, Redone, Answered, Released, Detached, Gone, CheckpointEnded, Broke, LogFull}}, Book.{AnswersUpTo, generation_after, generation_of, present, present_after, times_after, times_attached}}, pm_record.Calls.goes_two, declared.{pass.Pass.Pass, segment.Segment.Segment}, Children.times_behind, Moment.{Moment, moment}, pm_outside.Added.Added, Moves.{CountsEntries, IsShown, Moves}, MovesLaws.{counts_on, stands_on, unread_now}, Passes.{Admits, HasAnswer, IsInside}, Stands.{Begins, Origin, WaitsFrom}, Unread.has_break, UnreadLaws.{break_before, break_behind, redo_parts}}
+use Rattle.std.{proofs.{Common.{◌≡◌, ◌⊎◌, inl, inr, ℕ, ◌≤◌, true, List, [], ◌∷◌, ◌++◌, Option, None, Some, refl, sym, ◌∙◌, ap, subst, append_assoc, append-nil}, lemmas.{Bool.false≢true, List.{Sums.fold-append}}}, specs.Prelude.{IfSome, Any, fold}}
+use Rattle.pm_segment.specs.{pm_query.{pm_facts.Lists.Any-append, declared.book.BookEntry.{BookEntry, TheVariants.{Opened, Attached, Redone, Answered, Released, Detached, Gone, CheckpointEnded, Broke, LogFull}}, Book.{AnswersUpTo, generation_after, generation_of, present, present_after, times_after, times_attached}}, pm_record.Calls.goes_two, declared.{pass.Pass.Pass, segment.Segment.Segment}, Children.times_behind, Moment.{moment}, pm_outside.Added.Added, Moves.{Moves}, MovesLaws.{counts_on, stands_on, unread_now}, Passes.{Admits, HasAnswer, IsInside}, Stands.{Origin}, Unread.has_break, UnreadLaws.{break_before, break_behind, redo_parts}}
 use Rattle.pm_store_shared.specs.{Behind.{Behind, Knows}, Log.{is_own, AllOwn}, Quiet.{IsQuiet, AllQuiet}}
 
 -- ---- entries

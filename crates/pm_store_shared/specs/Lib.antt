@@ -2,11 +2,12 @@ pub mod Behind
 pub mod Ending
 pub mod Grows
 pub mod GrowsLaws
+pub mod Learned
+pub mod LearnedLaws
 pub mod Log
 pub mod Passes
 pub mod Places
 pub mod Quiet
-pub mod Reasons
 pub mod Renewed
 pub mod Rule
 pub mod Told

@@ -4,7 +4,7 @@
 //! the store, so that their commits are in its batch, and lets those run who can; the others wait for its end, and flush only
 //! what it left. So a batch grows with the number of those who commit, and nobody waits for who may come. Nothing of this is
 //! promised.
-ghost use Rattle.std.specs.Prelude.{◌≤◌, IfSome, IsSomeAnd};
+ghost use Rattle.std.specs.Prelude.{IsSome, IsTrue};
 
 use pm_query::StoreNo;
 use std::sync::{Condvar, Mutex, MutexGuard, Wait};
@@ -70,22 +70,22 @@ impl Joining {
         counts.before == Some(counts.went)
     }
 
-    /// Up to where the log is flushed, where another's flush has reached this front. Where there is no answer the caller leads:
-    /// it flushes, and then ends. Who has no front leads.
-    pub(crate) fn turn<R: Wait>(&self, rt: &R, front: Option<u64>) -> Option<u64>
-        ensures { IfSome result (λ flushed. IsSomeAnd front (λ reached. reached ≤ flushed)) }
+    /// Whether another's flush has reached this front. Where none has, the caller leads: it flushes, and then ends. Who has no
+    /// front leads.
+    pub(crate) fn turn<R: Wait>(&self, rt: &R, front: Option<u64>) -> bool
+        ensures { IsTrue result → IsSome front }
     {
         for _ in rt.forever() {
             let counts = self.counts.lock(rt);
             if counts.before.is_none() {
                 self.lead(rt, counts);
-                return None;
+                return false;
             }
             let flushed = self.follow(rt, counts);
             if let Some(reached) = front
                 && reached <= flushed
             {
-                return Some(flushed);
+                return true;
             }
         }
         unreachable!()

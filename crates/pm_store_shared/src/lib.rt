@@ -2,9 +2,9 @@
 //! tokens, of which each worker has one.
 //!
 //! The store lies in the one slot of a table. Each call of a token takes it, waiting until it has it, and gives it back before
-//! it returns; but a flush that another's has done in the meantime only waits for that one's end. Contracts see in a token the
-//! list of the entries that its calls noted. When all tokens are back, the lists and the shared side's own are a shuffle of the
-//! book.
+//! it returns; but a flush that another's has done in the meantime waits for that one's end, and only asks the store how far the
+//! log is flushed. Contracts see in a token the list of the entries that its calls noted. When all tokens are back, the lists and
+//! the shared side's own are a shuffle of the book.
 #![tactic(auto)]
 
 mod deed;

@@ -1,9 +1,9 @@
 //! One worker's side of the store.
-ghost use Rattle.std.specs.{Prelude.{◌≡◌, ◌⊎◌, ◌∷◌, [], List, None, IfOk, IfSome, OnErr, All}, Arc.arc_value};
-ghost use Rattle.pm_segment.specs.{pm_query.{declared.book.BookEntry.{BookEntry, TheVariants.Detached}, Book.generation_of, Calls.{CheckpointNotes, EnterNotes, FlushNotes, HasReached, IsPast, LeaveNotes, MetAnother, MetLater, ReachesNoLess, RedoNotes, RunNotes, SeenNotes, new_pass, newcomer, user_of, with_front}, Limits.HasShortValues}, Passes.view_of};
-ghost use Rattle.pm_store_shared.specs.{Grows.Grew, Passes.{Among, without_pass}, Reasons.HasFirstReason, Told.{IsResting, IsSmall, TokenModel, token_of}};
+ghost use Rattle.std.specs.{Prelude.{◌≡◌, ◌⊎◌, ◌∷◌, [], List, None, IfOk, OnErr, All}, Arc.arc_value};
+ghost use Rattle.pm_segment.specs.{pm_query.{declared.book.BookEntry.{BookEntry, TheVariants.Detached}, Book.generation_of, Calls.{CheckpointNotes, EnterNotes, FlushNotes, HasReached, IsPast, LearnsFront, LearnsReason, LeaveNotes, MetAnother, MetLater, ReachesNoLess, RedoNotes, RunNotes, SeenNotes, new_pass, newcomer, user_of, with_front}, Limits.HasShortValues}, Passes.view_of};
+ghost use Rattle.pm_store_shared.specs.{Grows.Grew, Learned.Learned, Passes.{Among, without_pass}, Told.{IsResting, IsSmall, TokenModel, token_of}};
 
-use crate::holding::{Holder, give, take, take_for, take_to_run, wake_all};
+use crate::holding::{Holder, give, give_unchanged, take, take_for, take_to_run, wake_all};
 use crate::joining::Joining;
 use crate::plays::Guarded;
 use pm_disk::Disk;
@@ -134,14 +134,32 @@ impl<D: Disk + Drop, B: Chronicle<BookEntry> + Drop> Token<D, B> {
         ensures admits { Among pass.new self.new.passes }
         ensures view { view_of pass.new ≡ view_of pass.old }
         ensures stale { MetLater (generation_of self.new.past) pass.old.generation result }
+        ensures learned { LearnsFront (Learned D.Disk B.Chronicle self.new.first self.new.past)
+            result }
     {
-        if let Some(flushed) = self.joining.turn(rt, pass.front) {
-            return Ok(flushed);
+        if self.joining.turn(rt, pass.front) {
+            return self.flushed_by_store(rt, pass);
         }
         let result = self.flush_store(rt, pass);
         wake_all(&self.table);
         self.joining.end(rt, &result);
         result
+    }
+
+    // Up to where the log is flushed, as the store tells it.
+    fn flushed_by_store<R: Wait>(&mut self, rt: &R, pass: &Pass) -> Result<u64, StoreNo>
+        requires admits { Among pass.now self.old.passes }
+        ensures notes { (entries : List BookEntry) × Grew entries self.old self.new
+            × FlushNotes (user_of None (view_of pass.now)) result entries }
+        ensures admits { Among pass.now self.new.passes }
+        ensures stale { MetLater (generation_of self.new.past) pass.now.generation result }
+        ensures learned { LearnsFront (Learned D.Disk B.Chronicle self.new.first self.new.past)
+            result }
+    {
+        let store = take_for(rt, &self.table, &mut self.seat, self.number, pass)?;
+        let flushed = store.flushed();
+        give_unchanged(&self.table, &mut self.seat, store);
+        flushed.ok_or(StoreNo::NoMemory)
     }
 
     // Flushes what is staged.
@@ -152,6 +170,8 @@ impl<D: Disk + Drop, B: Chronicle<BookEntry> + Drop> Token<D, B> {
         ensures admits { Among pass.new self.new.passes }
         ensures view { view_of pass.new ≡ view_of pass.old }
         ensures stale { MetLater (generation_of self.new.past) pass.old.generation result }
+        ensures learned { LearnsFront (Learned D.Disk B.Chronicle self.new.first self.new.past)
+            result }
     {
         let before = *pass;
         let mut store = take_for(rt, &self.table, &mut self.seat, self.number, &before)?;
@@ -176,8 +196,8 @@ impl<D: Disk + Drop, B: Chronicle<BookEntry> + Drop> Token<D, B> {
         ensures admits { Among pass.new self.new.passes }
         ensures view { view_of pass.new ≡ view_of pass.old }
         ensures stale { MetLater (generation_of self.new.past) pass.old.generation result }
-        ensures reason { IfSome self.new.first (λ first.
-            HasFirstReason self.new.past (D.seen first) result) }
+        ensures learned { LearnsReason (Learned D.Disk B.Chronicle self.new.first self.new.past)
+            result }
     {
         let before = *pass;
         let mut store = take_for(rt, &self.table, &mut self.seat, self.number, &before)?;

@@ -1,7 +1,7 @@
 //! A token with leave to wait, which is a store.
 ghost use Rattle.std.{specs.Prelude.None, proofs.Common.refl};
 ghost use Rattle.pm_segment.specs.{Passes.view_of, pm_query.Book.generation_of};
-ghost use Rattle.pm_store_shared.specs.{Grows.Grew, GrowsLaws.{generation_rises, grew_none, grew_on}, Passes.Among};
+ghost use Rattle.pm_store_shared.specs.{Grows.Grew, GrowsLaws.{generation_rises, grew_none, grew_on}, Learned.Learned, LearnedLaws.learned_still, Passes.Among};
 
 use crate::token::Token;
 use pm_disk::Disk;
@@ -30,6 +30,9 @@ impl<R: Wait + Drop, D: Disk + Drop, B: Chronicle<BookEntry> + Drop> Store for T
     ghost stamp = { λ store. None };
 
     ghost met = { λ store. generation_of store.token.past };
+
+    ghost learned = { λ store fact. Learned D.Disk B.Chronicle store.token.first
+        store.token.past fact };
 
     fn enter(&mut self, pid: u32, generation: u32) -> Result<Pass, StoreNo> {
         self.token.enter(&self.rt, pid, generation)
@@ -66,4 +69,7 @@ impl<R: Wait + Drop, D: Disk + Drop, B: Chronicle<BookEntry> + Drop> Store for T
     ghost stays = { λ before now entries grew. refl };
 
     ghost rises = { λ before now entries grew. generation_rises before.token.past now.token.past grew.past };
+
+    ghost keeps = { λ before now entries grew. learned_still (record { seen = D.seen; ticks = D.ticks; images = D.images; faults = D.faults })
+        (record { entries = B.entries; spare = B.spare }) entries before.token now.token grew };
 }

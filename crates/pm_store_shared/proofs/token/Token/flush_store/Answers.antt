@@ -1,6 +1,6 @@
 use Rattle.std.proofs.Common.{rules, ◌≡◌, ℕ, [], sym, ap, ◌∙◌, Option, Some, None, Err, subst, refl}
 use Rattle.pm_segment.specs.{Moment.moment, Passes.view_of, pm_query.{Book.generation_of, Calls.{MetLater, PassView, FlushNotes, user_of}}}
-use Rattle.pm_store_shared.{specs.{Told.past_of, Passes.Among}, proofs.{Calls.{called, stale_told, token_admits, token_may_quiet}, Others.{flush_free, flush_quiet, token_knows_same}}}
+use Rattle.pm_store_shared.{specs.{Told.past_of, Passes.Among}, proofs.{Calls.{called, stale_told, token_admits, token_may_quiet}, Learns.flush_learns, Others.{flush_free, flush_quiet, token_knows_same}}}
 use Rattle.pm_store_shared.proofs.token.Token.flush_store.Goals as goal
 
 pub flush-result-requires : goal.flush-result-requires
@@ -40,6 +40,14 @@ returns-clause-stale g c =
     let given = c.give.ensures.given in
     let done = called _ _ _ _ t.0 given.0 c.in_ok-store.store c.flush-result.new.self _ _ _ _ c.give.new.seat.me _ _ c.args.pass.now c.flush-result.new.pass _ c.self.view_is (c.give.ensures.same ∙ c.take_for.ensures.same) c.self.invariant.2.1 t.1 given.2 t.2 c.flush-result.ensures.notes.1.generation in
     subst (λ n. MetLater n c.args.pass.now.generation c.flush-result.result) done.met c.flush-result.ensures.stale
+
+pub returns-clause-learned : goal.returns-clause-learned
+returns-clause-learned g c =
+    let t = c.in_ok-store.ensures.taken in
+    let given = c.give.ensures.given in
+    let notes = c.flush-result.ensures.notes in
+    let done = called _ _ _ _ t.0 given.0 c.in_ok-store.store c.flush-result.new.self _ _ _ _ c.give.new.seat.me _ _ c.args.pass.now c.flush-result.new.pass _ c.self.view_is (c.give.ensures.same ∙ c.take_for.ensures.same) c.self.invariant.2.1 t.1 given.2 t.2 notes.1.generation in
+    flush_learns _ _ _ _ t.0 notes.0 c.in_ok-store.store c.flush-result.new.self _ _ _ _ _ (user_of (Some (moment c.in_ok-store.store).generation) (view_of c.args.pass.now)) c.flush-result.result c.self.view_is c.self.invariant.2.1 t.2 notes.2 notes.1 c.flush-result.ensures.cause done.grew.first done.past
 
 pub returns-in_err-store-clause-notes : goal.returns-in_err-store-clause-notes
 returns-in_err-store-clause-notes g c =

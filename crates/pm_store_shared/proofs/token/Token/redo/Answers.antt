@@ -1,6 +1,6 @@
 use Rattle.std.proofs.Common.{rules, ◌≡◌, ℕ, [], sym, ap, ◌∙◌, Option, Some, None, Err, subst, refl}
 use Rattle.pm_segment.specs.{Moment.moment, Passes.view_of, pm_query.{Book.generation_of, Calls.{MetLater, PassView, RedoNotes, user_of}}}
-use Rattle.pm_store_shared.{specs.{Told.past_of, Passes.Among}, proofs.{Calls.{called, redo_reason, stale_told, token_admits, token_may_quiet}, Others.{redo_free, redo_quiet, token_knows_same}}}
+use Rattle.pm_store_shared.{specs.{Told.past_of, Passes.Among}, proofs.{Calls.{called, stale_told, token_admits, token_may_quiet}, Learns.redo_learns, Others.{redo_free, redo_quiet, token_knows_same}}}
 use Rattle.pm_store_shared.proofs.token.Token.redo.Goals as goal
 
 pub redo-result-requires : goal.redo-result-requires
@@ -41,12 +41,12 @@ returns-clause-stale g c =
     let done = called _ _ _ _ t.0 given.0 c.in_ok-store.store c.redo-result.new.self _ _ _ _ c.give.new.seat.me _ _ c.args.pass.now c.redo-result.new.pass _ c.self.view_is (c.give.ensures.same ∙ c.take_for.ensures.same) c.self.invariant.2.1 t.1 given.2 t.2 c.redo-result.ensures.notes.1.generation in
     subst (λ n. MetLater n c.args.pass.now.generation c.redo-result.result) done.met c.redo-result.ensures.stale
 
-pub returns-clause-reason : goal.returns-clause-reason
-returns-clause-reason g c =
+pub returns-clause-learned : goal.returns-clause-learned
+returns-clause-learned g c =
     let t = c.in_ok-store.ensures.taken in
     let given = c.give.ensures.given in
     let done = called _ _ _ _ t.0 given.0 c.in_ok-store.store c.redo-result.new.self _ _ _ _ c.give.new.seat.me _ _ c.args.pass.now c.redo-result.new.pass _ c.self.view_is (c.give.ensures.same ∙ c.take_for.ensures.same) c.self.invariant.2.1 t.1 given.2 t.2 c.redo-result.ensures.notes.1.generation in
-    redo_reason _ _ _ _ t.0 c.in_ok-store.store _ _ _ _ _ c.redo-result.result c.self.view_is c.self.invariant.2.1 t.2 c.redo-result.ensures.reason done.grew.first done.past
+    redo_learns _ _ _ _ t.0 c.in_ok-store.store _ _ _ _ _ c.redo-result.result c.self.view_is c.self.invariant.2.1 t.2 c.redo-result.ensures.reason done.grew.first done.past
 
 pub returns-in_err-store-clause-notes : goal.returns-in_err-store-clause-notes
 returns-in_err-store-clause-notes g c =
