@@ -1,5 +1,5 @@
 -- Queries one after the other, up to the end of a session.
-use Rattle.std.{proofs.{Common.{◌≡◌, inl, inr, ℕ, zero, suc, ◌+◌, List, [], ◌∷◌, ◌++◌, length, Option, None, Result, Ok, Err, OnOk, refl, sym, ◌∙◌, ap, subst, arith, append_assoc, length-append}, lemmas.{Grind.flat_map-append, List.{append-nil, Concat.flat_map-cons, Elements.Contains-append_cases}}, Math.Nat.zero-add}, specs.List.{flat_map, Contains}}
+use Rattle.std.{proofs.{Common.{◌≡◌, inl, inr, ℕ, zero, suc, List, [], ◌∷◌, ◌++◌, length, Option, None, Result, Ok, Err, OnOk, refl, sym, ◌∙◌, ap, subst, arith, append_assoc, length-append}, lemmas.{Grind.flat_map-append, List.{append-nil, Concat.flat_map-cons, Elements.Contains-append_cases}}, Math.Nat.zero-add}, specs.List.{flat_map, Contains}}
 use Rattle.pm_query.{specs.{declared.book.BookEntry.BookEntry, Calls.User}, proofs.NotedLaws.GoesInTurn}
 use Rattle.pm_child_life.{specs.{Life.{Told, Cancel}, Attention.{Attention, Hears, IsAttentive, was_given}}, proofs.AttentionLaws.{hears_none, hears_both, hears_fewer, since_later}}
 use Rattle.pm_wire.specs.{Outgoing.Outgoing, Backend.BackMessage, Frontend.{FrontMessage, Query, BadQuery, LongQuery, Terminate, Extended, Other, IsFront, IsUndecided, BeginsBadly}}

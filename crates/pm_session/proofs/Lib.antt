@@ -5,6 +5,7 @@ pub mod Conversing
 pub mod Entries
 pub mod Heeding
 pub mod Links
+pub mod Overtaking
 pub mod Said
 pub mod Sessions
 pub mod Steps

@@ -1,6 +1,6 @@
 -- A whole session, put together from its parts.
 use Rattle.std.{proofs.{Common.{◌≡◌, ◌≢◌, ◌⊎◌, inl, inr, ℕ, ◌+◌, ◌≤◌, Bool, true, false, List, [], ◌∷◌, ◌++◌, length, map, Option, None, Some, IfSome, Result, Ok, Err, refl, sym, ◌∙◌, ap, subst, arith, append_assoc}, lemmas.List.{append-nil, Elements.Contains-append_right}}, specs.{List.{flat_map, Contains}, Option.option_map}}
-use Rattle.pm_session_exchange.{specs.{pm_outside.{Traffic.{Traffic, IsFresh, came_in_of, went_out_of}, Added.Added}, pm_exit.declared.child.Status.Status, pm_query.{declared.{book.BookEntry.{BookEntry, TheVariants.Attached}, store.StoreNo.StoreNo}, Calls.{User, PassView, user_of, newcomer, new_pass, EnterNotes}}, declared.ending.{Cause.{Cause, TheVariants.{Terminated, Cancelling, LinkEnded, LinkFailed, TimedOut, PacketRefused, MessageRefused, DecisionRefused, GateRefused, ShortOfMemory, Panicked, ToldToTerminate, ToldToQuit, Killed, Overtaken}}, Stage.{Stage, TheVariants.{Outside, Entering, Greeted}}}, Exchange.{LinkView, HasEnded, Passes, HasFailed, CutsOff, Sends, Holds, IsSound, IsLeftFor}, Attention.ends_of, Sent.{Turn, bytes_of, greeting, last_of}, Ends.{LetsGo, status_by}, Queries.IsCancelledTurn, Moments.{Moment, moment, ShowsCause, IsBreak, outside}}, proofs.{LinkLaws.{passes_both, sound_left}, SentLaws.{bytes_of-append, bytes_of-none}}}
+use Rattle.pm_session_exchange.{specs.{pm_outside.{Traffic.{Traffic, IsFresh, came_in_of, went_out_of}, Added.Added}, pm_exit.declared.child.Status.Status, pm_query.{declared.{book.BookEntry.{BookEntry, TheVariants.Attached}, store.StoreNo.StoreNo}, Calls.{User, PassView, user_of, newcomer, new_pass, EnterNotes}}, declared.ending.{Cause.{Cause, TheVariants.{Terminated, Cancelling, LinkEnded, LinkFailed, TimedOut, PacketRefused, MessageRefused, DecisionRefused, GateRefused, ShortOfMemory, Panicked, ToldToTerminate, ToldToQuit, Killed, Overtaken}}, Stage.{Stage, TheVariants.{Outside, Entering, Greeted}}}, Exchange.{LinkView, HasEnded, Passes, HasFailed, CutsOff, Sends, Holds, IsSound, IsLeftFor}, Attention.ends_of, Sent.{Turn, bytes_of, greeting, last_of}, Ends.{LetsGo, status_by}, Queries.IsCancelledTurn, Moments.{Moment, moment, ShowsCause, IsBreak, outside}, Answers.IsOvertakenBy}, proofs.{LinkLaws.{passes_both, sound_left}, SentLaws.{bytes_of-append, bytes_of-none}}}
 use Rattle.pm_admit.specs.declared.Cac.{Cac}
 use Rattle.pm_admit.specs.declared.Cac.TheVariants as decisions
 use Rattle.pm_session_exchange.specs.pm_exit.declared.child.Status.TheVariants as statuses
@@ -8,7 +8,7 @@ use Rattle.pm_startup.specs.{declared.phase.Phase.Phase, pm_wire.Backend.BackMes
 use Rattle.pm_session_exchange.specs.pm_query.declared.store.StoreNo.TheVariants as nos
 use Rattle.pm_session_exchange.specs.pm_query.declared.store.Store as Store
 use Rattle.pm_child_life.{specs.{Life.{Child, Told, Signal, Kill, Quit, Terminate as ToTerminate, Cancel, nothing_told, met_at_gate, asked_cancel, IsUntried, HasNoCancel}, declared.life.GateNo.GateNo, Attention.{Attention, HasAsked, Hears, IsAttentive, KeepsCancels, was_given}}, proofs.AttentionLaws.{hears_both, hears_fewer, cancels_then}}
-use Rattle.pm_session.{specs.{Session.{Ending, Heeds, HasAskedFor, CausedBy, IsCaused, HasEntered, IsAdmitted, IsSession, between, HasPassed, AskInTurn, IsStart, StopsAt, EndsAt, AllNotes, AllSleep, HasSlept, MayPassOver, NotesOutside, Leaves, IsAttachedAt, IsBehindStart, IsInside, StaysOut, AsksCancel, HasCancelled, first_phase, pieces, query_bytes, last_messages, status_of, TurnsAway, IsAttachedBehind}, Conversation.Conversed, declared.session.Admission.Admission, Entry.{ClosesBy, Connected, Enters, AsksToCancel, IsTold, EndsBy, Closes, Serves, IsTextBehind, IsTextInside, CanRefuseEntry, refusal_cause}, Heeding.{TurnsHeed, HeedInTurn, AllRead}}, proofs.{Attentions.{untried_still, new_untried, new_no_cancel, cancels_still, HasCancels}, Heeding.{heed_none, heed_all, heed_later, heed_earlier}, Links.fresh_sound, Closings.{told_status, told_still, told_now}, Said.shows_since, Conversing.nothing_yet, Entries.{enters_not, no_packet_yet}}}
+use Rattle.pm_session.{specs.{Session.{Ending, Heeds, HasAskedFor, CausedBy, IsCaused, HasEntered, IsAdmitted, IsSession, between, HasPassed, AskInTurn, IsStart, StopsAt, EndsAt, AllNotes, AllSleep, HasSlept, MayPassOver, NotesOutside, Leaves, IsAttachedAt, IsBehindStart, IsInside, StaysOut, AsksCancel, HasCancelled, first_phase, pieces, query_bytes, last_messages, status_of, TurnsAway, IsAttachedBehind}, Conversation.Conversed, declared.session.Admission.Admission, Entry.{ClosesBy, Connected, Enters, AsksToCancel, IsTold, EndsBy, Closes, Serves, IsTextBehind, IsTextInside, CanRefuseEntry, refusal_cause}, Heeding.{TurnsHeed, HeedInTurn, AllRead}}, proofs.{Attentions.{untried_still, new_untried, new_no_cancel, cancels_still, HasCancels}, Heeding.{heed_none, heed_all, heed_later, heed_earlier}, Links.fresh_sound, Closings.{told_status, told_still, told_now}, Said.shows_since, Conversing.nothing_yet, Entries.{enters_not, no_packet_yet}, Overtaking.ending_overtaken}}
 
 -- ---- two texts, one after the other
 
@@ -1007,6 +1007,7 @@ connected_not its admission gives exit link0 link1 store at0 at1 rests fresh fre
   attached_outside ending.stage (at1.child.attached ≡ None) (LetsGo ending.exit (at1.child.attached ≡ None) (at1.child.attached ≡ Some 0)) stage (ap (λ (child : Child). child.attached) closes.hears.child ∙ free),
   stopped_made admission.decision ShortOfMemory ending link0 link0 link1 [] at0 at0 at1 fresh (new_no_cancel at0.told untold) (enters_not link0 at0) closes,
   closes.heeds,
+  ending_overtaken (its.met store) 0 ShortOfMemory ending at1 closes.ends (λ e. absurd cc),
 )
 
 -- What a link and a life were given and give back.
@@ -1023,9 +1024,9 @@ pub connected_as : {S P : Type 0} (its : Store.Ghosts S P) (admission : Admissio
     → (ending : Ending) × (turns : List Turn) × (generation : ℕ) × (status ≡ status_of ending)
     × IsSession its.notes admission.decision (newcomer (its.stamp store0) child0.pid generation) admission.key turns ending (HasFailed given back) (between back.traffic store0 store1)
     × IsCaused ending turns generation admission.decision back.traffic (HasFailed given back) told1 limit gives × HasAskedFor turns told0 told1
-    × IsAttachedBehind ending generation child1 × HasCancelled ending.cause back.traffic told1
+    × IsAttachedBehind ending generation child1 × HasCancelled ending.cause back.traffic told1 × IsOvertakenBy (its.met store1) generation ending.exit
 connected_as its admission gives exit status limit link0 link1 given back unread0 unread1 store0 store1 at0 at1 told0 told1 child0 child1 handed is s =
-    rw (← handed.link_given, ← handed.link_back, ← handed.told_given, handed.told_back, ← handed.child_given, handed.child_back) (s.0, s.1, s.2, is ∙ ap status_by (sym s.3), s.4, s.5 limit, s.6, s.7, s.8)
+    rw (← handed.link_given, ← handed.link_back, ← handed.told_given, handed.told_back, ← handed.child_given, handed.child_back) (s.0, s.1, s.2, is ∙ ap status_by (sym s.3), s.4, s.5 limit, s.6, s.7, s.8, s.10)
 
 pub connected_heeds : {S P : Type 0} (its : Store.Ghosts S P) (admission : Admission) (gives : ℕ → Type 0) (exit : Cause) (status : Status) (before now : Moment S) (told : Option Told) → status ≡ status_by exit → told ≡ now.child.told
     → Connected its admission gives exit before now → Heeds status told

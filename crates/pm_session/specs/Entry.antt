@@ -4,7 +4,7 @@ use Rattle.pm_admit.specs.declared.Cac.{Cac}
 use Rattle.pm_admit.specs.declared.Cac.TheVariants as decisions
 use Rattle.pm_session_exchange.specs.pm_exit.declared.child.Status.TheVariants as statuses
 use Rattle.pm_startup.specs.{declared.phase.{Phase.Phase, Step.TheVariants.SayNo}, Grammar.{Content, startup, cancel_request, Decides, FrontDecides, IsUndecided as IsNoPacketYet, max_length}, Phases.step_of, pm_wire.{Backend.BackMessage, Conditions.told, declared.condition.Condition.Condition}}
-use Rattle.pm_session_exchange.specs.{pm_query.{declared.{book.BookEntry.{BookEntry, TheVariants.Attached}, store.StoreNo.StoreNo}, Calls.{User, newcomer, user_of}}, pm_child_life.{Life.{Told, Kill, Quit, Terminate, asked_cancel}, Attention.{Attention, Hears, KeepsCancels, was_given}}, declared.ending.{Cause.{Cause, TheVariants.{Cancelling, ToldToTerminate, ToldToQuit, Killed, Overtaken, ShortOfMemory}}, Stage.Stage}, Exchange.{Passes, HasFailed, CutsOff, Holds, IsLeftFor, IsSound}, Sent.{Turn, bytes_of}, Ends.status_by, Moments.{Moment, ShowsCause, Attends}}
+use Rattle.pm_session_exchange.specs.{pm_query.{declared.{book.BookEntry.{BookEntry, TheVariants.Attached}, store.StoreNo.StoreNo}, Calls.{User, newcomer, user_of}}, pm_child_life.{Life.{Told, Kill, Quit, Terminate, asked_cancel}, Attention.{Attention, Hears, KeepsCancels, was_given}}, declared.ending.{Cause.{Cause, TheVariants.{Cancelling, ToldToTerminate, ToldToQuit, Killed, Overtaken, ShortOfMemory}}, Stage.Stage}, Exchange.{Passes, HasFailed, CutsOff, Holds, IsLeftFor, IsSound}, Sent.{Turn, bytes_of}, Ends.status_by, Moments.{Moment, ShowsCause, Attends}, Answers.IsOvertakenBy}
 use Rattle.pm_session_exchange.specs.pm_query.declared.store.StoreNo.TheVariants as nos
 use Rattle.pm_session_exchange.specs.pm_query.declared.store.Store as Store
 use Rattle.pm_session.specs.{declared.{session.Admission.Admission, startup.Ask.{Ask, TheVariants.{Nothing, Encryption, Start, Cancel, Refused}}}, Session.{Ending, Heeds, HasAskedFor, IsCaused, IsSession, IsAttachedBehind, HasCancelled, IsInside, AllSleep, HasSlept, EndsSoundly, between, query_bytes, IsText, IsStart, IsRefusedPacket, AskInTurn, StopsAt, MayPassOver, Leaves, first_phase, last_messages, status_of}}
@@ -168,6 +168,7 @@ module _ {S P : Type 0} (its : Store.Ghosts S P) where
   Admitted admission gives exit before now =
       (ending : Ending) × (generation : ℕ) × (ending.exit ≡ exit) × IsAttachedBehind ending generation now.child.child
       × Serves its.notes (IsTextBehind admission.decision (newcomer (its.stamp before.store) before.child.child.pid generation) admission.key) admission.decision generation gives ending before now
+      × IsOvertakenBy (its.met now.store) generation ending.exit
 
   -- from its first byte
   abbrev pub Connected : Admission → (gives : ℕ → Type 0) → (exit : Cause) → (before now : Moment S) → Type 0
@@ -179,3 +180,4 @@ module _ {S P : Type 0} (its : Store.Ghosts S P) where
       × IsAttachedBehind ending generation now.child.child
       × HasCancelled ending.cause now.link.traffic now.child.told
       × Heeds (status_of ending) now.child.told
+      × IsOvertakenBy (its.met now.store) generation ending.exit

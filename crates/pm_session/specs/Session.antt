@@ -1,6 +1,6 @@
 -- A whole session: what its client is sent for what it sent, what the child notes, how it ends, and why.
 use Rattle.std.specs.{Prelude.{◌≡◌, ◌≢◌, ◌⊎◌, ℕ, ◌+◌, ◌-◌, ◌^◌, ◌≤◌, min, true, false, List, [], ◌∷◌, ◌++◌, length, map, codes, Option, None, Some, Ok, Err, IfSome}, List.flat_map}
-use Rattle.pm_session_exchange.specs.{pm_outside.{Traffic.Traffic, pm_disk.Cause.Rose}, pm_exit.declared.child.Status.Status, pm_query.{declared.book.BookEntry.{BookEntry, TheVariants.Attached}, Calls.{newcomer, User, MayBeOver, NotesFault, LeaveNotes}}, declared.{last.Done.Done, ending.{MessageFault.{MessageFault, TheVariants.{BadLength, BadForm, LongQuery, Extended, UnknownType}}, Cause.{Cause, TheVariants.{Terminated, Cancelling, LinkEnded, LinkFailed, TimedOut, PacketRefused, MessageRefused, DecisionRefused, GateRefused, ShortOfMemory, Panicked, ToldToTerminate, ToldToQuit, Killed, Overtaken}}, Stage.{Stage, TheVariants.{Outside, Entering, Greeted}}}}, pm_child_life.{declared.life.GateNo.GateNo, Life.{Child, Told, Kill, Quit, Terminate as ToTerminate, Cancel, was_told}, Attention.was_given}, Exchange.CutsOff, Sent.{Turn, bytes_of, greeting, turn_messages, last_of}, Ends.{status_by, LetsGo}, Queries.{IsUnreleased, TurnNotes, Sleeps, IsCancelledTurn}}
+use Rattle.pm_session_exchange.specs.{pm_outside.{Traffic.Traffic, pm_disk.Cause.Rose}, pm_exit.declared.child.Status.Status, pm_query.{declared.book.BookEntry.{BookEntry, TheVariants.Attached}, Calls.{newcomer, User, MayBeOver, NotesFault, LeaveNotes}}, declared.{last.Done.Done, ending.{MessageFault.{MessageFault, TheVariants.{BadLength, BadForm, LongQuery, Extended, UnknownType}}, Cause.{Cause, TheVariants.{Terminated, Cancelling, LinkEnded, LinkFailed, TimedOut, PacketRefused, MessageRefused, DecisionRefused, GateRefused, ShortOfMemory, Panicked, ToldToTerminate, ToldToQuit, Killed, Overtaken}}, Stage.{Stage, TheVariants.{Outside, Entering, Greeted}}}}, pm_child_life.{declared.life.GateNo.GateNo, Life.{Child, Told, Kill, Quit, Terminate as ToTerminate, Cancel, was_told}, Attention.was_given}, Exchange.CutsOff, Sent.{Turn, bytes_of, greeting, turn_messages, last_of}, Ends.{status_by, LetsGo}, Queries.{IsUnreleased, TurnNotes, Sleeps, IsCancelledTurn}, Answers.IsOvertakenBy}
 use Rattle.pm_supervisor.specs.{pm_admit.declared.Cac.Cac, declared.Reason.Reason}
 use Rattle.pm_supervisor.specs.pm_admit.declared.Cac.TheVariants as decisions
 use Rattle.pm_session_exchange.specs.pm_exit.declared.child.Status.TheVariants as statuses
@@ -342,7 +342,8 @@ pub record HasCancelled (cause : Cause) (link : Option Traffic) (told : Option T
 
 module _ {S P L F : Type 0} (its : Store.Ghosts S P) (of_link : Link.Ghosts L) (of_life : Life.Ghosts F) where
   -- What came in on this link, what went out and what the child of this life noted are those of one session; its ending has
-  -- its causes and its status. It has asked for its signals, is attached or not, and has made cancels as told above.
+  -- its causes and its status. It has asked for its signals, is attached or not, and has made cancels as told above. Where
+  -- it exits as overtaken, it has last met the store in another generation than its own.
   abbrev pub HasServed : Admission → SessionConf → (gives : ℕ → Type 0) → L → F → S → Done L F → S → Type 0
   HasServed admission conf gives link life before result now =
       (ending : Ending) × (turns : List Turn) × (generation : ℕ) × (result.status ≡ status_of ending)
@@ -353,3 +354,4 @@ module _ {S P L F : Type 0} (its : Store.Ghosts S P) (of_link : Link.Ghosts L) (
       × HasAskedFor turns (of_life.told life) (of_life.told result.life)
       × IsAttachedBehind ending generation (of_life.child result.life)
       × HasCancelled ending.cause (of_link.traffic result.link) (of_life.told result.life)
+      × IsOvertakenBy (its.met now) generation ending.exit

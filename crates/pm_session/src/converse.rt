@@ -1,7 +1,7 @@
 //! A greeted client's queries, in order, up to the session's end.
 ghost use Rattle.std.specs.Prelude.{◌≡◌, false, [], length, OnOk};
 ghost use Rattle.pm_wire.specs.Frontend.{front_message};
-ghost use Rattle.pm_session_exchange.specs.{Exchange.{Holds, IsLeftFor, IsSound}, Moments.{ShowsCause, GoesOrShows}, Room.IsQueryString, Answers.KeepsUser};
+ghost use Rattle.pm_session_exchange.specs.{Exchange.{Holds, IsLeftFor, IsSound}, Moments.{ShowsCause, GoesOrShows}, Room.IsQueryString, Answers.{KeepsUser, IsOvertakenBy, OvertakesBy}};
 ghost use Rattle.pm_session.specs.Turns.{Talked, Talks, Takes, Replies, HasQueryText, at_desk};
 
 use crate::desk::Desk;
@@ -32,6 +32,7 @@ impl<L: Link, F: Life> Desk<L, F> {
         ensures holds { IsSound false self.old.link.traffic → IsLeftFor result self.new.link.traffic }
         ensures admits { S.admits store.new pass.new }
         ensures user { KeepsUser S.Store store.old pass.old store.new pass.new }
+        ensures overtaken { IsOvertakenBy (S.met store.new) (S.view pass.old).generation result }
     {
         for _ in means.rt.forever() {
             if let Err(cause) = self.step(means, inbox, store, pass) {
@@ -57,6 +58,7 @@ impl<L: Link, F: Life> Desk<L, F> {
         ensures holds { Holds false result self.old.link self.new.link }
         ensures admits { S.admits store.new pass.new }
         ensures user { KeepsUser S.Store store.old pass.old store.new pass.new }
+        ensures overtaken { OvertakesBy (S.met store.new) (S.view pass.old).generation result }
         ensures empty { OnOk result (self.new.outbox.bytes ≡ []) }
     {
         self.line.heed()?;
@@ -96,6 +98,7 @@ impl<L: Link, F: Life> Desk<L, F> {
         ensures holds { Holds false result self.old.link self.new.link }
         ensures admits { S.admits store.new pass.new }
         ensures user { KeepsUser S.Store store.old pass.old store.new pass.new }
+        ensures overtaken { OvertakesBy (S.met store.new) (S.view pass.old).generation result }
         ensures empty { OnOk result (self.new.outbox.bytes ≡ []) }
     {
         match message {
@@ -127,6 +130,7 @@ impl<L: Link, F: Life> Desk<L, F> {
         ensures holds { Holds false result self.old.link self.new.link }
         ensures admits { S.admits store.new pass.new }
         ensures user { KeepsUser S.Store store.old pass.old store.new pass.new }
+        ensures overtaken { OvertakesBy (S.met store.new) (S.view pass.old).generation result }
         ensures empty { OnOk result (self.new.outbox.bytes ≡ []) }
     {
         let answer = self.line.answer_to(means, store, pass, text)?;

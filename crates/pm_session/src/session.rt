@@ -1,6 +1,6 @@
 //! One connection from its first byte to its end.
 ghost use Rattle.std.specs.Prelude.{◌≡◌, ◌≤◌, ◌+◌, ◌++◌, false, [], length, None, Some, Ok, OnOk, IfOk, IfSome, IsTrue};
-ghost use Rattle.pm_session_exchange.specs.{pm_query.pm_facts.Zeros.HasNoZero, pm_outside.Traffic.IsFresh, pm_child_life.{Life.IsUntried, Attention.Hears}, Exchange.{Holds, Sends}, Moments.{GoesOrBreaks, IsUntold}, Sent.{bytes_of, greeting}, Room.buffer_bytes, Answers.KeepsUser};
+ghost use Rattle.pm_session_exchange.specs.{pm_query.pm_facts.Zeros.HasNoZero, pm_outside.Traffic.IsFresh, pm_child_life.{Life.IsUntried, Attention.Hears}, Exchange.{Holds, Sends}, Moments.{GoesOrBreaks, IsUntold}, Sent.{bytes_of, greeting}, Room.buffer_bytes, Answers.{KeepsUser, IsOvertakenBy}};
 ghost use Rattle.pm_wire.specs.Backend.{spelling, Param};
 ghost use Rattle.pm_session.specs.{Session.{HasServed, Heeds}, Entry.{Admitted, Connected, Entered, Inside, CanRefuseEntry, refusal_cause}, Turns.at_desk};
 
@@ -157,6 +157,7 @@ impl<L: Link, F: Life> Desk<L, F> {
             (C.gives means.now.clock.now) result (at_desk self.old inbox.old store.old)
             (at_desk self.new inbox.new store.new) }
         ensures child { self.new.child.child ≡ self.old.child.child }
+        ensures overtaken { IsOvertakenBy (S.met store.new) generation result }
     {
         if let Err(cause) = self.line.heed() {
             return self.close(Cac::Ok, Stage::Entering, cause);
@@ -194,6 +195,7 @@ impl<L: Link, F: Life> Desk<L, F> {
         ensures child { self.new.child.child ≡ self.old.child.child }
         ensures admits { S.admits store.new pass.new }
         ensures user { KeepsUser S.Store store.old pass.old store.new pass.new }
+        ensures overtaken { IsOvertakenBy (S.met store.new) (S.view pass.old).generation result }
     {
         let cause = match self.greet(key) {
             Ok(()) => self.converse(means, inbox, store, pass),

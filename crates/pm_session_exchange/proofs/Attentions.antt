@@ -1,5 +1,5 @@
 -- A cancel that is heeded or dropped.
-use Rattle.std.proofs.{Common.{true, false, Option, None, Some, refl, sym}, lemmas.Bool.true≢false}
+use Rattle.std.proofs.{Common.{false, Option, None, Some, refl, sym}, lemmas.Bool.true≢false}
 use Rattle.pm_child_life.{specs.{declared.standing.Standing.Standing, Life.{Child, Told}, Attention.{attention, IsAttentive, Hears}}, proofs.AttentionLaws.{asked_none, gained_none, cancels_none}}
 
 dropped : (told : Option Told) (child : Child) (standing : Standing) → IsAttentive (attention told child standing) → IsAttentive (attention told child (record standing { cancel = false }))

@@ -2,6 +2,7 @@ pub mod Attentions
 pub mod Lasts
 pub mod Links
 pub mod Noted
+pub mod OvertakingLaws
 pub mod Signals
 pub mod Sleeping
 pub mod Wanting

@@ -1,5 +1,5 @@
 -- Laws of what passed on a link, from one moment to the next.
-use Rattle.std.proofs.{Common.{ℕ, true, false, Bool, List, [], ◌++◌, Option, None, Some, refl, sym, ◌∙◌, arith}, lemmas.Bool.true≢false}
+use Rattle.std.proofs.{Common.{ℕ, Bool, List, [], ◌++◌, Option, None, Some, refl, sym, ◌∙◌, arith}, lemmas.Bool.true≢false}
 use Rattle.pm_outside.{specs.Traffic.{Traffic, came_in_of, went_out_of}, proofs.AddedLaws.{added_both, added_none}}
 use Rattle.pm_session_exchange.specs.{declared.ending.Cause.Cause, Exchange.{LinkView, Passes, IsSound, IsLeftFor}}
 

@@ -1,5 +1,5 @@
 -- A query step by step: what is answered and noted for it, and what waiting for it can give.
-use Rattle.std.specs.{Prelude.{◌≡◌, ◌*◌, ◌++◌, ℕ, List, [], ◌∷◌, All, Option, None, Result, Ok, Err, IfOk}, List.flat_map, Str.IsUtf8}
+use Rattle.std.specs.{Prelude.{◌≡◌, ◌≢◌, ◌*◌, ◌++◌, ℕ, List, [], ◌∷◌, All, Option, None, Result, Ok, Err, IfOk, IfErr}, List.flat_map, Str.IsUtf8}
 use Rattle.pm_query.specs.{pm_sql.{declared.stmt.Stmt.Stmt, Statements.IsQueryText}, declared.{book.BookEntry.{BookEntry, TheVariants.Released}, store.{Staged.Staged, StoreNo.StoreNo}}, Calls.{User, MayBeOver, NotesFault, user_of}, Limits.HasShortValues}
 use Rattle.pm_query.specs.declared.store.StoreNo.TheVariants as nos
 use Rattle.pm_query.specs.declared.store.Store as Store
@@ -137,6 +137,16 @@ AnswerSleeps gives text result = IfOk result (λ answer. Sleeps gives text (turn
 
 abbrev pub AnswerUncancelled : Result Answer Cause → (before now : Option Told) → Type 0
 AnswerUncancelled result before now = IfOk result (λ answer. SleptWhole (turn_of answer) → SleepsUncancelled before now)
+
+-- ---- the generation
+
+-- who ends as overtaken has last met the store in another generation than its own
+abbrev pub IsOvertakenBy : (met generation : ℕ) → Cause → Type 0
+IsOvertakenBy met generation cause = cause ≡ Overtaken → generation ≢ met
+
+-- it came to an answer; or where it ended as overtaken, it has last met another generation
+abbrev pub OvertakesBy : {T : Type 0} → (met generation : ℕ) → Result T Cause → Type 0
+OvertakesBy met generation result = IfErr result (IsOvertakenBy met generation)
 
 -- ---- of a store, by a pass of its own
 

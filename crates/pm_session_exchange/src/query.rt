@@ -2,7 +2,7 @@
 ghost use Rattle.std.specs.Prelude.{◌≡◌, ℕ, [], Option, IfOk, false};
 ghost use Rattle.pm_sql.specs.Faults.{IsFaultOf};
 ghost use Rattle.pm_child_life.specs.{Attention.Hears, Life.Told};
-ghost use Rattle.pm_session_exchange.specs.{Queries.{HasSleptFor, Sleeps, TurnNotes}, Answers.{AnswerNotes, ScriptNotes, CanRefuseRun, refusal_of, turn_of, IsFit, FitsScript, SleepGoes, Notes, KeepsUser, AnswerFits, AnswerSleeps, AnswerUncancelled}, Moments.AnswersOrHeeds, Room.IsQueryString};
+ghost use Rattle.pm_session_exchange.specs.{Queries.{HasSleptFor, Sleeps, TurnNotes}, Answers.{AnswerNotes, ScriptNotes, CanRefuseRun, refusal_of, turn_of, IsFit, FitsScript, SleepGoes, Notes, KeepsUser, OvertakesBy, AnswerFits, AnswerSleeps, AnswerUncancelled}, Moments.AnswersOrHeeds, Room.IsQueryString};
 
 use crate::ear::Ear;
 use crate::ending::Cause;
@@ -43,6 +43,7 @@ impl<L: Link, F: Life> Line<L, F> {
         ensures uncancelled { AnswerUncancelled result self.old.child.told self.new.child.told }
         ensures admits { S.admits store.new pass.new }
         ensures user { KeepsUser S.Store store.old pass.old store.new pass.new }
+        ensures overtaken { OvertakesBy (S.met store.new) (S.view pass.old).generation result }
         ensures link { self.new.link ≡ self.old.link }
         ensures hears { Hears 0 self.old.child self.new.child }
         ensures heeded { AnswersOrHeeds result self.new.child }
@@ -69,6 +70,7 @@ impl<F: Life> Ear<F> {
         ensures uncancelled { AnswerUncancelled result self.old.told self.new.told }
         ensures admits { S.admits store.new pass.new }
         ensures user { KeepsUser S.Store store.old pass.old store.new pass.new }
+        ensures overtaken { OvertakesBy (S.met store.new) (S.view pass.old).generation result }
         ensures hears { Hears 0 self.old self.new }
         ensures heeded { AnswersOrHeeds result self.new }
     {
@@ -100,6 +102,7 @@ impl<F: Life> Ear<F> {
         ensures uncancelled { AnswerUncancelled result self.old.told self.new.told }
         ensures admits { S.admits store.new pass.new }
         ensures user { KeepsUser S.Store store.old pass.old store.new pass.new }
+        ensures overtaken { OvertakesBy (S.met store.new) (S.view pass.old).generation result }
         ensures hears { Hears 0 self.old self.new }
         ensures heeded { AnswersOrHeeds result self.new }
     {
@@ -150,6 +153,7 @@ impl<F: Life> Ear<F> {
         ensures fit { IfOk result (FitsScript script.now self.old.told self.new.told) }
         ensures admits { S.admits store.new pass.new }
         ensures user { KeepsUser S.Store store.old pass.old store.new pass.new }
+        ensures overtaken { OvertakesBy (S.met store.new) (S.view pass.old).generation result }
         ensures hears { Hears 0 self.old self.new }
         ensures heeded { AnswersOrHeeds result self.new }
     {

@@ -2,7 +2,7 @@
 ghost use Rattle.std.specs.Prelude.{◌≡◌, List};
 ghost use Rattle.pm_query.specs.Calls.{HasReached};
 ghost use Rattle.pm_child_life.specs.Attention.{Hears};
-ghost use Rattle.pm_session_exchange.specs.{Answers.{no_release, CanEndWait, WaitNotes, ReleaseNotes, Notes, KeepsUser}, Moments.AnswersOrHeeds};
+ghost use Rattle.pm_session_exchange.specs.{Answers.{no_release, CanEndWait, WaitNotes, ReleaseNotes, Notes, KeepsUser, OvertakesBy}, Moments.AnswersOrHeeds};
 
 use crate::ear::Ear;
 use crate::ending::Cause;
@@ -76,6 +76,7 @@ impl<F: Life> Ear<F> {
             store.old store.new }
         ensures admits { S.admits store.new pass.new }
         ensures user { KeepsUser S.Store store.old pass.old store.new pass.new }
+        ensures overtaken { OvertakesBy (S.met store.new) (S.view pass.old).generation result }
         ensures hears { Hears 1 self.old self.new }
         ensures heeded { AnswersOrHeeds result self.new }
     {
@@ -102,6 +103,7 @@ impl<F: Life> Ear<F> {
             store.old store.new }
         ensures admits { S.admits store.new pass.new }
         ensures user { KeepsUser S.Store store.old pass.old store.new pass.new }
+        ensures overtaken { OvertakesBy (S.met store.new) (S.view pass.old).generation result }
         ensures hears { Hears 1 self.old self.new }
         ensures heeded { AnswersOrHeeds result self.new }
     {

@@ -1,8 +1,8 @@
-use Rattle.std.proofs.{Common.{◌≡◌, ◌∙◌, [], ℕ, List, None, Some, Ok, Err, true, false, ap, sym, subst, refl, arith}, lemmas.Bool.true≢false}
+use Rattle.std.proofs.{Common.{◌≡◌, ◌∙◌, [], ℕ, List, None, Some, Ok, Err, ap, sym, subst, refl, arith}, lemmas.Bool.true≢false}
 use Rattle.pm_admit.specs.declared.Cac.TheVariants as decisions
-use Rattle.pm_session_exchange.specs.{pm_query.Calls.{User, newcomer}, declared.ending.Cause.{Cause, TheVariants.{DecisionRefused, GateRefused}}, Ends.LetsGo, Sent.Turn, Moments.moment}
+use Rattle.pm_session_exchange.{specs.{pm_query.Calls.{User, newcomer}, declared.ending.Cause.{Cause, TheVariants.{DecisionRefused, GateRefused}}, Ends.LetsGo, Sent.Turn, Moments.moment, Answers.IsOvertakenBy}, proofs.OvertakingLaws.overtaken_not_told}
 use Rattle.pm_child_life.{specs.Life.{Child, attached_in}, proofs.AttentionLaws.{cancels_then, hears_both}}
-use Rattle.pm_session.{specs.{Session.HasAskedFor, Entry.{Serves, IsTextBehind}}, proofs.{Attentions.{cancels_at_gate, untried_still}, Sessions.{at_outside, told_away, turned_away, asked_for, asked_at_gate, met_now, met_still, served_since, lets_go_by, attached_outside, attached_inside, out_untried, out_refused}}}
+use Rattle.pm_session.{specs.{Session.HasAskedFor, Entry.{Serves, IsTextBehind}}, proofs.{Attentions.{cancels_at_gate, untried_still}, Overtaking.ending_overtaken, Sessions.{at_outside, told_away, turned_away, asked_for, asked_at_gate, met_now, met_still, served_since, lets_go_by, attached_outside, attached_inside, out_untried, out_refused}}}
 use Rattle.pm_session.proofs.desk.Desk.admit.Goals as goal
 
 pub returns-in_default : goal.returns-in_default
@@ -25,6 +25,7 @@ returns-in_default g c =
         turned_away g.S.Store.notes decision user c.args.admission.key 0 gives DecisionRefused closes.0 l0 l2 c.args.inbox.now c.args.inbox.now c.args.store.now c.args.store.now at0 at0 at2 [] (λ e. absurd cc) (λ phase packet start. start) (λ beyond. tt) stands.0 stands.1
             (g.met.S.Store.at_rest _) (asked_for 1 [] at0.told at2.told (omega arith) closes.3.hears.asked) closes.3 (λ limit. c.in_default.not-Ok) stands.2
             (out_untried closes.0.stage DecisionRefused at2.told closes.1 (untried_still 1 at0.told at2.told closes.3.hears.asked c.requires.untried)) closes.3.hears.cancels,
+        ending_overtaken (g.S.Store.met c.args.store.now) 0 DecisionRefused closes.0 at2 closes.3.ends (λ e. absurd cc),
       );
     }
 
@@ -49,6 +50,7 @@ returns-in-Err g c =
         attached_outside closes.0.stage _ _ closes.1 (ap (λ (child : Child). child.attached) (closes.3.hears.child ∙ c.heed.ensures.hears.child) ∙ free),
         told_away g.S.Store.notes decisions.Ok user c.args.admission.key 0 gives c.in-Err.cause closes.0 l0 l2 c.args.inbox.now c.args.store.now at0 at1 at2 c.heed.ensures.attentive c.in-Err.ensures.ends (g.met.S.Store.at_rest _) stands
             (out_untried closes.0.stage c.in-Err.cause at2.told closes.1 (untried_still 2 at0.told at2.told (hears_both 1 1 at0 at1 at2 c.heed.ensures.hears closes.3.hears).asked untried)) c.heed.ensures.hears closes.3,
+        ending_overtaken (g.S.Store.met c.args.store.now) 0 c.in-Err.cause closes.0 at2 closes.3.ends (overtaken_not_told _ 0 c.in-Err.cause c.in-Err.ensures.stops.0),
       );
     }
 
@@ -79,6 +81,8 @@ returns-then-lets_go g c =
     (moment l2 c.attached-exit.new.inbox c.attached-exit.new.store at2)) pid_is attached.2 in
     let asked : (turns : List Turn) → HasAskedFor turns at1.told at2.told → HasAskedFor turns at0.told at2.told = λ turns asked. asked_at_gate (Ok generation) turns at0.told c.heed.new.self.child.told at1.told at2.told c.heed.ensures.hears.asked c.in-Ok-attach.ensures.meets.told asked in
     let keeps = cancels_then at0.told c.heed.new.self.child.told at1.told c.heed.ensures.hears.cancels (cancels_at_gate (Ok generation) c.heed.new.self.child.told at1.told c.in-Ok-attach.ensures.meets.told) in
+    let over : IsOvertakenBy (g.S.Store.met c.attached-exit.new.store) generation attached.0.exit =
+    subst (λ (exit : Cause). IsOvertakenBy (g.S.Store.met c.attached-exit.new.store) generation exit) (sym attached.1) c.attached-exit.ensures.overtaken in
     let gone = rw (← c.self-in-Ok-attach.view_is) at serves in
     record {
       serves = rw (c.in-Ok.is, ← c.self.view_is, c.detach.ensures.link) (
@@ -89,6 +93,7 @@ returns-then-lets_go g c =
             (subst (λ (exit : Cause). LetsGo exit (c.detach.new.self.child.child.attached ≡ None) (c.detach.new.self.child.child.attached ≡ Some generation)) (sym attached.1)
             (lets_go_by c.attached-exit.result c.lets_go.result _ _ c.lets_go.ensures (λ goes. ap (λ (child : Child). child.attached) c.detach.ensures.child) (λ stays. absurd (true≢false (sym c.if-lets_go.true ∙ stays))))),
         served_since g.S.Store.notes _ decisions.Ok generation gives attached.0 l0 _ _ _ _ _ at0 at1 c.self-in-Ok-attach.inside.line.child c.detach.new.self.child (rw (← c.self-in-Ok-attach.view_is) at asked) keeps c.detach.ensures.told gone,
+        over,
       );
     }
 
@@ -111,6 +116,8 @@ returns-else-lets_go g c =
     (moment l2 c.attached-exit.new.inbox c.attached-exit.new.store at2)) pid_is attached.2 in
     let asked : (turns : List Turn) → HasAskedFor turns at1.told at2.told → HasAskedFor turns at0.told at2.told = λ turns asked. asked_at_gate (Ok generation) turns at0.told c.heed.new.self.child.told at1.told at2.told c.heed.ensures.hears.asked c.in-Ok-attach.ensures.meets.told asked in
     let keeps = cancels_then at0.told c.heed.new.self.child.told at1.told c.heed.ensures.hears.cancels (cancels_at_gate (Ok generation) c.heed.new.self.child.told at1.told c.in-Ok-attach.ensures.meets.told) in
+    let over : IsOvertakenBy (g.S.Store.met c.attached-exit.new.store) generation attached.0.exit =
+    subst (λ (exit : Cause). IsOvertakenBy (g.S.Store.met c.attached-exit.new.store) generation exit) (sym attached.1) c.attached-exit.ensures.overtaken in
     record {
       serves = rw (c.in-Ok.is, ← c.self.view_is) (
         attached.0,
@@ -121,6 +128,7 @@ returns-else-lets_go g c =
             (lets_go_by c.attached-exit.result c.lets_go.result _ _ c.lets_go.ensures (λ goes. absurd (true≢false (sym goes ∙ c.if-lets_go.false)))
             (λ stays. ap (λ (child : Child). child.attached) (c.attached-exit.ensures.child ∙ child)))),
         served_since g.S.Store.notes _ decisions.Ok generation gives attached.0 l0 l2 _ _ _ _ at0 at1 at2 at2 asked keeps refl serves,
+        over,
       );
     }
 
@@ -151,5 +159,6 @@ returns-in-Err-attach g c =
             (asked_at_gate (Err refusal) [] at0.told c.heed.new.self.child.told at1.told at2.told c.heed.ensures.hears.asked told (asked_for 1 [] at1.told at2.told (omega arith) closes.3.hears.asked)) closes.3
             (λ limit. (refl, met)) stands.2 (out_refused closes.0.stage refusal at2.told closes.1 met)
             (cancels_then at0.told at1.told at2.told (cancels_then at0.told c.heed.new.self.child.told at1.told c.heed.ensures.hears.cancels (cancels_at_gate (Err refusal) c.heed.new.self.child.told at1.told told)) closes.3.hears.cancels),
+        ending_overtaken (g.S.Store.met c.args.store.now) 0 (GateRefused refusal) closes.0 at2 closes.3.ends (λ e. absurd cc),
       );
     }

@@ -1,8 +1,8 @@
 use Rattle.std.proofs.Common.{◌≡◌, ◌∙◌, ◌∷◌, [], ℕ, List, Ok, true, false, ap, sym, subst, refl, arith}
 use Rattle.pm_admit.specs.declared.Cac.TheVariants as decisions
-use Rattle.pm_session_exchange.specs.{pm_query.{declared.book.BookEntry.{BookEntry, TheVariants.Attached}, Calls.{User, user_of, newcomer, LeaveNotes}}, declared.ending.{Cause.Cause, Stage.TheVariants.Entering}, Moments.{moment, outside}}
+use Rattle.pm_session_exchange.{specs.{pm_query.{declared.book.BookEntry.{BookEntry, TheVariants.Attached}, Calls.{User, PassView, user_of, newcomer, LeaveNotes}}, declared.ending.{Cause.Cause, Stage.TheVariants.Entering}, Ends.LetsGo, Moments.{moment, outside}, Answers.IsOvertakenBy}, proofs.OvertakingLaws.overtaken_not_told}
 use Rattle.pm_child_life.{specs.Life.Child, proofs.AttentionLaws.hears_both}
-use Rattle.pm_session.{specs.{Session.{Leaves, IsInside}, Entry.{Closes, Serves, IsTextInside, refusal_cause}}, proofs.Sessions.{enter_can, at_entering, told_away, turned_away, refused_notes, refusal_fails, refusal_stops, refusal_over, refusal_caused, met_still, asked_for, user_is, served_left, lets_go_by, inside_at, out_inside}}
+use Rattle.pm_session.{specs.{Session.{Leaves, IsInside}, Entry.{Closes, Serves, IsTextInside, refusal_cause}}, proofs.{Overtaking.{closed_overtaken, entry_overtaken}, Sessions.{enter_can, at_entering, told_away, turned_away, refused_notes, refusal_fails, refusal_stops, refusal_over, refusal_caused, met_still, asked_for, user_is, served_left, lets_go_by, inside_at, out_inside}}}
 use Rattle.pm_session.proofs.desk.Desk.attached.Goals as goal
 
 pub returns-in-Err-clause-serves : goal.returns-in-Err-clause-serves
@@ -112,3 +112,24 @@ returns-else-lets_go-clause-serves g c =
       served_left g.S.Store.notes decisions.Ok user c.args.key gives served.0 l0 l2 _ _ _ _ _ _ at0 at1 at2 [] g.met.S.Store.in_turn entered serves (g.met.S.Store.at_rest _) leaves c.heed.ensures.hears,
       served.3,
     )
+
+-- ---- the generation
+
+pub returns-in-Err-clause-overtaken : goal.returns-in-Err-clause-overtaken
+returns-in-Err-clause-overtaken g c =
+    closed_overtaken _ c.args.generation decisions.Ok Entering c.in-Err.cause c.close.result _ _ c.close.ensures.closes (overtaken_not_told _ c.args.generation c.in-Err.cause c.in-Err.ensures.stops.0)
+
+pub returns-in-Err-enter-clause-overtaken : goal.returns-in-Err-enter-clause-overtaken
+returns-in-Err-enter-clause-overtaken g c =
+    closed_overtaken _ c.args.generation decisions.Ok Entering c.refusal_cause.result c.close-in-Err-enter.result _ _ c.close-in-Err-enter.ensures.closes
+    (rw c.refusal_cause.ensures (entry_overtaken g.row.S-Pass.Denot (g.S.Store.met c.enter.new.self) c.args.generation c.in-Err-enter.no c.in-Err-enter.ensures.stale))
+
+pub returns-then-lets_go-clause-overtaken : goal.returns-then-lets_go-clause-overtaken
+returns-then-lets_go-clause-overtaken g c = λ e.
+    let stays = subst (λ (exit : Cause). LetsGo exit (c.lets_go.result ≡ true) (c.lets_go.result ≡ false)) e c.lets_go.ensures in
+    let never : true ≡ false = sym c.if-lets_go.true ∙ stays in
+    absurd cc
+
+pub returns-else-lets_go-clause-overtaken : goal.returns-else-lets_go-clause-overtaken
+returns-else-lets_go-clause-overtaken g c =
+    subst (λ (pass : PassView). IsOvertakenBy (g.S.Store.met c.entered-exit.new.store) pass.generation c.entered-exit.result) c.in-Ok.ensures.view c.entered-exit.ensures.overtaken

@@ -1,4 +1,5 @@
-use Rattle.std.proofs.Common.{◌∙◌, refl}
+use Rattle.std.proofs.Common.{◌∙◌, refl, subst}
+use Rattle.pm_session_exchange.specs.{pm_query.Calls.User, Answers.IsOvertakenBy}
 use Rattle.pm_session.proofs.{Said.shows_since, Conversing.{conversing_none, conversing_then, conversed_then, conversing_as, conversed_as}}
 use Rattle.pm_session.proofs.desk.Desk.converse.Goals as goal
 
@@ -30,3 +31,6 @@ loop-preserved g c = record {
 
 pub returns-in-Err-clause-holds : goal.returns-in-Err-clause-holds
 returns-in-Err-clause-holds g c = λ sound. c.in-Err.ensures.holds (c.loop.invariant.holds sound)
+
+pub returns-in-Err-clause-overtaken : goal.returns-in-Err-clause-overtaken
+returns-in-Err-clause-overtaken g c = subst (λ (u : User). IsOvertakenBy (g.S.Store.met c.step.new.store) u.generation c.in-Err.cause) c.loop.invariant.user c.in-Err.ensures.overtaken

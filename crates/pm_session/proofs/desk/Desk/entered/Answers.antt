@@ -1,7 +1,7 @@
 use Rattle.std.proofs.Common.{ℕ, subst, refl, Ok, Err}
-use Rattle.pm_session_exchange.specs.{pm_query.Calls.{User, user_of}, declared.ending.Stage.TheVariants.Greeted, Sent.{bytes_of, greeting}, Exchange.Sends}
+use Rattle.pm_session_exchange.{specs.{pm_query.Calls.{User, user_of}, declared.ending.Stage.TheVariants.Greeted, Sent.{bytes_of, greeting}, Exchange.Sends, Answers.IsOvertakenBy}, proofs.OvertakingLaws.overtaken_not_broken_off}
 use Rattle.pm_admit.specs.declared.Cac.TheVariants as decisions
-use Rattle.pm_session.{specs.Turns.at_desk, proofs.{Sessions.{Talked, talked_on, talked_cut, served_inside, inside_at}, desk.Desk.entered.Goals.{in-Ok, in-Err}}}
+use Rattle.pm_session.{specs.Turns.at_desk, proofs.{Overtaking.closed_overtaken, Sessions.{Talked, talked_on, talked_cut, served_inside, inside_at}, desk.Desk.entered.Goals.{in-Ok, in-Err}}}
 use Rattle.pm_session.proofs.desk.Desk.entered.Goals as goal
 
 pub returns-clause-serves : goal.returns-clause-serves
@@ -22,3 +22,13 @@ returns-clause-serves g c =
       served_inside g.S.Store.notes decisions.Ok user c.args.key (g.C.Clock.gives c.args.means.now.clock.now) c.match-greet.cause closes.0 l0 c.match-greet.self.link c.close.new.self.link _ _ _ _ _ c.match-greet.self.child c.close.new.self.child refl c.requires.met talked closes.1 closes.3,
       inside_at closes.0.stage Greeted closes.1 tt,
     )
+
+pub returns-clause-overtaken : goal.returns-clause-overtaken
+returns-clause-overtaken g c =
+    let generation = (g.S.Store.view c.args.pass.now).generation in
+    let over : IsOvertakenBy (g.S.Store.met c.match-greet.store) generation c.match-greet.cause =
+    elim c.match-greet.branch [
+      | in-Ok w ↦ rw (w.store-is, w.cause-is) w.converse-cause.ensures.overtaken
+      | in-Err w ↦ rw (w.store-is, w.cause-is) (overtaken_not_broken_off _ generation w.in-Err.cause w.in-Err.ensures.cause.0)
+    ] in
+    closed_overtaken _ generation decisions.Ok Greeted c.match-greet.cause c.close.result _ _ c.close.ensures.closes over

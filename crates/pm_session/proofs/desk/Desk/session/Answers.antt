@@ -1,6 +1,6 @@
 use Rattle.std.proofs.Common.{◌≡◌, ◌∙◌, [], ℕ, List, Ok, Err, ap, subst, arith}
 use Rattle.pm_session_exchange.specs.{pm_query.Calls.{User, newcomer}, pm_child_life.Life.Child, Moments.{moment, outside}}
-use Rattle.pm_session.{specs.Entry.{Enters, Serves, IsTextBehind}, proofs.{Attentions.{untried_still, new_untried, new_no_cancel}, Links.fresh_sound, Sessions.{stopped_session, stopped_caused, started_session, started_caused, stopped_made, started_made, no_cancel_kept, asked_for, asked_since, attached_outside, started_slept}}}
+use Rattle.pm_session.{specs.Entry.{Enters, Serves, IsTextBehind}, proofs.{Attentions.{untried_still, new_untried, new_no_cancel}, Links.fresh_sound, Overtaking.{ending_overtaken, overtaken_not_outside}, Sessions.{stopped_session, stopped_caused, started_session, started_caused, stopped_made, started_made, no_cancel_kept, asked_for, asked_since, attached_outside, started_slept}}}
 use Rattle.pm_session.proofs.desk.Desk.session.Goals as goal
 
 pub startup-requires-clause-none : goal.startup-requires-clause-none
@@ -46,6 +46,7 @@ returns-in-Ok-clause-session g c =
       served.3,
       started_made served.0 l0 l1 l2 c.startup.new.inbox at0 at1 at2 0 (new_no_cancel _ untold) enters (no_cancel_kept at1.told at2.told serves.cancels) serves.unasked,
       serves.heeds,
+      served.5,
     )
 
 pub returns-in-Ok-clause-number : goal.returns-in-Ok-clause-number
@@ -83,6 +84,7 @@ returns-in-Err-clause-session g c =
       attached_outside closes.0.stage _ _ closes.1 (ap (λ (child : Child). child.attached) (closes.3.hears.child ∙ enters.attends.child) ∙ free),
       stopped_made decision cause closes.0 l0 l1 l2 c.startup.new.inbox at0 at1 at2 fresh (new_no_cancel _ untold) enters closes.3,
       closes.3.heeds,
+      ending_overtaken (g.S.Store.met c.args.store.now) 0 cause closes.0 at2 closes.3.ends (overtaken_not_outside _ 0 enters.phase cause enters.last enters.goes_on.0),
     )
 
 pub returns-in-Err-clause-number : goal.returns-in-Err-clause-number

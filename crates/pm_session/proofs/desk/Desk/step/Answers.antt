@@ -1,6 +1,6 @@
 use Rattle.std.proofs.{Common.{◌∙◌, ◌++◌, ◌<◌, ℕ, List, length, take, drop, ap, refl, subst, sym, take-append-drop}, lemmas.Result.err_from_is_err_and}
 use Rattle.pm_wire.specs.{Frontend.{front_message, IsFront, IsUndecided, BeginsBadly}, declared.take.{Take.TheVariants.Bad, WireFault.WireFault}}
-use Rattle.pm_session.proofs.{Conversing.message_taken, Steps.{stops_here, waited, bad_length, length_refused}}
+use Rattle.pm_session.proofs.{Conversing.message_taken, Steps.{stops_here, waited, bad_length, length_refused}, Overtaking.overtaken_not_waited}
 use Rattle.pm_session.proofs.desk.Desk.step.Goals as goal
 
 pub returns-in_err-heed-clause-talks : goal.returns-in_err-heed-clause-talks
@@ -21,6 +21,9 @@ returns-in-Short-clause-talks g c =
     let undecided = subst (λ (l : List ℕ). (more : List ℕ) → length (l ++ more) < c.in-Short.wanted → IsUndecided (l ++ more)) c.unread.ensures (λ more few. c.in-Short.ensures.least c.in-Short.wanted more refl few) in
     let comes = rw c.heed.ensures.link at c.await_bytes.ensures.comes in
     rw (← c.self.view_is) (waited g.S.Store.notes (g.C.Clock.gives c.args.means.now.clock.now) _ c.in-Short.wanted c.await_bytes.result _ _ _ _ _ _ _ _ (g.met.S.Store.at_rest _) c.heed.ensures.hears c.await_bytes.ensures.hears comes undecided)
+
+pub returns-in-Short-clause-overtaken : goal.returns-in-Short-clause-overtaken
+returns-in-Short-clause-overtaken g c = overtaken_not_waited _ _ c.in-Short.wanted c.await_bytes.result _ _ _ _ c.await_bytes.ensures.comes
 
 pub pass-requires : goal.pass-requires
 pass-requires g c =

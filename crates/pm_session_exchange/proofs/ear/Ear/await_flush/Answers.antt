@@ -1,7 +1,7 @@
-use Rattle.std.proofs.{Common.{◌∙◌, [], refl}, lemmas.Result.err_from_is_err_and}
-use Rattle.pm_query.{specs.Calls.user_of, proofs.NotedLaws.{none_behind, same_user}}
+use Rattle.std.proofs.{Common.{◌∙◌, ℕ, [], refl, subst}, lemmas.Result.err_from_is_err_and}
+use Rattle.pm_query.{specs.{Calls.{User, user_of}, declared.store.Seen.Seen}, proofs.NotedLaws.{none_behind, same_user}}
 use Rattle.pm_child_life.proofs.AttentionLaws.{hears_none, hears_both, hears_fewer}
-use Rattle.pm_session_exchange.proofs.Noted.{wait_ends, wait_done, wait_stops, flush_ends, seen_can, flush_can}
+use Rattle.pm_session_exchange.{specs.Answers.{OvertakesBy, no_release}, proofs.{Noted.{wait_ends, wait_done, wait_stops, flush_ends, seen_can, flush_can}, OvertakingLaws.{wait_overtaken, overtaken_not_waiting}}}
 use Rattle.pm_session_exchange.proofs.ear.Ear.await_flush.Goals as goal
 
 pub loop-init : goal.loop-init
@@ -21,6 +21,7 @@ returns-in_err-heed_waiting g c =
       notes = rw (p.1, p.2) ([], c.loop.invariant.notes, wait_stops user c.args.front c.in_err-heed_waiting.field-0.0 c.in_err-heed_waiting.ensures.stops.0);
       admits = c.loop.invariant.admits;
       user = c.loop.invariant.user;
+      overtaken = rw (p.1, p.2) (overtaken_not_waiting _ _ c.in_err-heed_waiting.field-0.0 c.in_err-heed_waiting.ensures.stops.0);
       hears = hears_both 0 1 _ _ _ c.loop.invariant.hears c.heed_waiting.ensures.hears;
       heeded = rw (p.1, p.2) c.in_err-heed_waiting.ensures.stops.1;
     }
@@ -48,6 +49,11 @@ pub returns-in-Err-clause-user : goal.returns-in-Err-clause-user
 returns-in-Err-clause-user g c =
     same_user _ _ _ _ (g.met.S.Store.stays _ _ _ c.in-Err.ensures.notes.1) c.seen.ensures.view ∙ c.loop.invariant.user
 
+pub returns-in-Err-clause-overtaken : goal.returns-in-Err-clause-overtaken
+returns-in-Err-clause-overtaken g c =
+    let met = g.S.Store.met c.seen.new.self in
+    rw c.no_release.ensures (subst (λ (u : User). OvertakesBy met u.generation (no_release c.in-Err.no)) c.loop.invariant.user (wait_overtaken Seen met _ c.in-Err.no c.in-Err.ensures.stale))
+
 pub returns-in-Err-clause-hears : goal.returns-in-Err-clause-hears
 returns-in-Err-clause-hears g c = hears_both 0 1 _ _ _ c.loop.invariant.hears c.heed_waiting.ensures.hears
 
@@ -63,6 +69,11 @@ pub returns-in_err-heed_waiting-2-clause-user : goal.returns-in_err-heed_waiting
 returns-in_err-heed_waiting-2-clause-user g c =
     let seen = rw c.in-Ok-NotFlushed.field-0-is at c.in-Ok-NotFlushed.ensures.notes in
     same_user _ _ _ _ (g.met.S.Store.stays _ _ _ seen.1) c.seen.ensures.view ∙ c.loop.invariant.user
+
+pub returns-in_err-heed_waiting-2-clause-overtaken : goal.returns-in_err-heed_waiting-2-clause-overtaken
+returns-in_err-heed_waiting-2-clause-overtaken g c =
+    let p = err_from_is_err_and c.from_residual-in_err-heed_waiting-2.result c.from_residual-in_err-heed_waiting-2.ensures.1 in
+    rw (p.1, p.2) (overtaken_not_waiting _ _ c.in_err-heed_waiting-2.field-0.0 c.in_err-heed_waiting-2.ensures.stops.0)
 
 pub returns-in_err-heed_waiting-2-clause-hears : goal.returns-in_err-heed_waiting-2-clause-hears
 returns-in_err-heed_waiting-2-clause-hears g c = hears_fewer 1 1 _ _ (hears_both 1 1 _ _ _ (hears_both 0 1 _ _ _ c.loop.invariant.hears c.heed_waiting.ensures.hears) c.heed_waiting-in-loop.ensures.hears)
@@ -83,6 +94,13 @@ pub returns-in-Err-flush-clause-user : goal.returns-in-Err-flush-clause-user
 returns-in-Err-flush-clause-user g c =
     let seen = rw c.in-Ok-NotFlushed.field-0-is at c.in-Ok-NotFlushed.ensures.notes in
     same_user _ _ _ _ (g.met.S.Store.stays _ _ _ c.in-Err-flush.ensures.notes.1) c.flush.ensures.view ∙ same_user _ _ _ _ (g.met.S.Store.stays _ _ _ seen.1) c.seen.ensures.view ∙ c.loop.invariant.user
+
+pub returns-in-Err-flush-clause-overtaken : goal.returns-in-Err-flush-clause-overtaken
+returns-in-Err-flush-clause-overtaken g c =
+    let seen = rw c.in-Ok-NotFlushed.field-0-is at c.in-Ok-NotFlushed.ensures.notes in
+    let same = same_user _ _ _ _ (g.met.S.Store.stays _ _ _ seen.1) c.seen.ensures.view ∙ c.loop.invariant.user in
+    let met = g.S.Store.met c.flush.new.self in
+    rw c.no_release-in-Err-flush.ensures (subst (λ (u : User). OvertakesBy met u.generation (no_release c.in-Err-flush.refusal)) same (wait_overtaken ℕ met _ c.in-Err-flush.refusal c.in-Err-flush.ensures.stale))
 
 pub returns-in-Err-flush-clause-hears : goal.returns-in-Err-flush-clause-hears
 returns-in-Err-flush-clause-hears g c = hears_fewer 1 1 _ _ (hears_both 1 1 _ _ _ (hears_both 0 1 _ _ _ c.loop.invariant.hears c.heed_waiting.ensures.hears) c.heed_waiting-in-loop.ensures.hears)

@@ -1,12 +1,18 @@
-use Rattle.pm_query.{specs.Calls.user_of, proofs.NotedLaws.same_user_at}
+use Rattle.std.proofs.Common.{subst}
+use Rattle.pm_query.{specs.{Calls.{User, user_of}, declared.store.Staged.Staged}, proofs.NotedLaws.same_user_at}
 use Rattle.pm_child_life.proofs.AttentionLaws.{hears_fewer, hears_none}
-use Rattle.pm_session_exchange.proofs.Noted.{run_can, run_refused, ran, released_fits}
+use Rattle.pm_session_exchange.{specs.Answers.OvertakesBy, proofs.{Noted.{run_can, run_refused, ran, released_fits}, OvertakingLaws.run_overtaken}}
 use Rattle.pm_session_exchange.proofs.ear.Ear.run.Goals as goal
 
 pub returns-in-Ok-clause-notes : goal.returns-in-Ok-clause-notes
 returns-in-Ok-clause-notes g c =
     let user = same_user_at c.in-Ok.staged.front _ _ (g.S.Store.view c.args.pass.now) _ (g.met.S.Store.stays _ _ _ c.in-Ok.ensures.notes.1) c.in-Ok.ensures.view in
     ran _ _ _ _ c.in-Ok.staged _ _ _ _ g.met.S.Store.in_turn user c.in-Ok.ensures.notes c.release.ensures.notes
+
+pub returns-in-Ok-clause-overtaken : goal.returns-in-Ok-clause-overtaken
+returns-in-Ok-clause-overtaken g c =
+    let user = same_user_at c.in-Ok.staged.front _ _ (g.S.Store.view c.args.pass.now) _ (g.met.S.Store.stays _ _ _ c.in-Ok.ensures.notes.1) c.in-Ok.ensures.view in
+    subst (λ (u : User). OvertakesBy (g.S.Store.met c.release.new.store) u.generation c.release.result) user c.release.ensures.overtaken
 
 pub returns-in-Ok-clause-fit : goal.returns-in-Ok-clause-fit
 returns-in-Ok-clause-fit g c = released_fits _ c.in-Ok.staged _ _ c.args.script.now _ _ c.release.ensures.notes.2 c.in-Ok.ensures.short
@@ -22,3 +28,6 @@ refusal_of-requires g c = run_can (user_of (g.S.Store.stamp c.args.store.now) (g
 
 pub returns-in-Err-clause-notes : goal.returns-in-Err-clause-notes
 returns-in-Err-clause-notes g c = rw c.refusal_of.ensures (run_refused g.S.Store.notes (user_of (g.S.Store.stamp c.args.store.now) (g.S.Store.view c.args.pass.now)) c.args.script.now c.in-Err.no _ _ c.in-Err.ensures.notes)
+
+pub returns-in-Err-clause-overtaken : goal.returns-in-Err-clause-overtaken
+returns-in-Err-clause-overtaken g c = rw c.refusal_of.ensures (run_overtaken Staged (g.S.Store.met c.run.new.self) _ c.in-Err.no c.in-Err.ensures.stale)
