@@ -1,9 +1,9 @@
 -- What a child noted, put together from what the store's calls note.
 use Rattle.std.proofs.{Common.{◌≡◌, ℕ, true, false, List, [], ◌∷◌, ◌++◌, All, Option, Some, Ok, Err, refl, sym, ◌∙◌, ap, subst, arith}, lemmas.List.{append-nil, Elements.{All-nil, All-cons, All-append}}}
 use Rattle.pm_exit.specs.declared.child.Kind.{Kind}
-use Rattle.pm_query.{specs.{declared.{book.BookEntry.{BookEntry, TheVariants.{Attached, CheckpointEnded}}, store.{StoreNo.StoreNo, Checkpointed.{Checkpointed, TheVariants.{Done, Skipped, NotDue}}}}, Calls.{User, newcomer, EnterNotes, CheckpointNotes, MetAnother, MetLater}}, proofs.NotedLaws.{GoesInTurn, behind_none}}
+use Rattle.pm_query.{specs.{declared.{book.BookEntry.{BookEntry, TheVariants.{Attached, CheckpointEnded}}, store.{StoreNo.StoreNo, Checkpointed.{Checkpointed, TheVariants.{Done, Skipped, NotDue}}}}, Calls.{DiskFact, unread_for, LearnsReason, User, newcomer, EnterNotes, CheckpointNotes, MetAnother, MetLater}}, proofs.NotedLaws.{GoesInTurn, behind_none}}
 use Rattle.pm_query.specs.declared.store.StoreNo.TheVariants as stores
-use Rattle.pm_aux.specs.{declared.cause.AuxiliaryEnd.{AuxiliaryEnd, TheVariants.{Redone, Flushed, Closed, LeftOut, Refused, TurnedAway, ToldToTerminate, ToldToQuit, Killed}}, Ends.{fault_by, lets_go, IsMetBehind}, Work.{IsPassing, ClosesBy, Checkpoints, Does, HasWorked, HasEntered, LeavesIf}}
+use Rattle.pm_aux.specs.{declared.cause.AuxiliaryEnd.{AuxiliaryEnd, TheVariants.{Redone, Flushed, Closed, LeftOut, Refused, TurnedAway, ToldToTerminate, ToldToQuit, Killed}}, Ends.{fault_by, lets_go, IsMetBehind, LearnsWhy}, Work.{IsPassing, ClosesBy, Checkpoints, Does, HasWorked, HasEntered, LeavesIf}}
 
 -- ---- a child's way through the store
 
@@ -64,6 +64,23 @@ met_left (TurnedAway refusal) met later is same = tt
 met_left ToldToTerminate met later is same = tt
 met_left (ToldToQuit reason) met later is same = tt
 met_left Killed met later is same = tt
+
+-- ---- why the log can't be read
+
+-- by the answer of a redo
+pub learned_by : (learned : DiskFact → Type 0) (refusal : StoreNo) → LearnsReason learned (Err refusal) → LearnsWhy learned (Some refusal)
+learned_by learned refusal learns fault is = let same : refusal ≡ stores.Redo fault = cc in learns fault (ap (λ (no_ : StoreNo). Err no_) same)
+
+-- an entering is refused by no reason of the log
+pub learned_outside : (P : Type 0) (learned : DiskFact → Type 0) (user : User) (refusal : StoreNo) (noted : List BookEntry) → EnterNotes {P = P} user (Err refusal) noted → LearnsWhy learned (Some refusal)
+learned_outside P learned user refusal noted notes fault is =
+    let same : refusal ≡ stores.Redo fault = cc in absurd (subst (λ (no_ : StoreNo). EnterNotes {P = P} user (Err no_) noted) same notes)
+
+-- later it is known still
+pub learned_still : (before now : DiskFact → Type 0) (refusal : Option StoreNo) → ((fact : DiskFact) → before fact → now fact) → LearnsWhy before refusal → LearnsWhy now refusal
+learned_still before now refusal keeps learns fault is = keeps (unread_for fault) (learns fault is)
+
+-- ---- under the same child
 
 -- nothing, and then what a call noted under this child
 pub behind_as : {S : Type 0} (notes : List BookEntry → S → S → Type 0) (P : User → List BookEntry → Type 0) (who user : User) (before between now : S) → GoesInTurn notes → who ≡ user → notes [] before between

@@ -2,7 +2,7 @@
 use Rattle.std.specs.Prelude.{◌≡◌, ◌≢◌, ℕ, Bool, true, false, Option, None, Some, Result, Ok, Err}
 use Rattle.pm_exit.specs.declared.child.Status.{Status, TheVariants.{Code, Signal}}
 use Rattle.pm_child_life.specs.declared.life.GateNo.{GateNo}
-use Rattle.pm_query.specs.declared.store.StoreNo.{StoreNo}
+use Rattle.pm_query.specs.{pm_record.declared.fault.RedoFault.RedoFault, declared.store.StoreNo.StoreNo, Calls.{DiskFact, unread_for}}
 use Rattle.pm_query.specs.declared.store.StoreNo.TheVariants as stores
 use Rattle.pm_aux.specs.declared.{aux_done.AuxDone.AuxDone, cause.AuxiliaryEnd.{AuxiliaryEnd, TheVariants.{Redone, Flushed, Closed, LeftOut, Refused, TurnedAway, ToldToTerminate, ToldToQuit, Killed}}}
 
@@ -94,3 +94,7 @@ attached_behind cause gate = unless (lets_go cause) (let_in gate)
 abbrev pub IsMetBehind : (met : ℕ) → (fault : Option StoreNo) → Type 0
 IsMetBehind met (Some (stores.Stale mine found)) = (found ≡ met) × (mine ≢ found)
 IsMetBehind met _ = Unit {0}
+
+-- who tells that the log can't be read has learned the reason
+abbrev pub LearnsWhy : (learned : DiskFact → Type 0) → Option StoreNo → Type 0
+LearnsWhy learned refusal = (fault : RedoFault) → refusal ≡ Some (stores.Redo fault) → learned (unread_for fault)

@@ -3,7 +3,7 @@ ghost use Rattle.std.specs.Prelude.{◌≡◌, ℕ, List, IfSome, IsTrue, Some, 
 ghost use Rattle.pm_exit.specs.declared.child.Kind.TheVariants.{Startup};
 ghost use Rattle.pm_query.specs.{declared.book.BookEntry.BookEntry, Calls.{newcomer, user_of}};
 ghost use Rattle.pm_child_life.specs.Life.{nothing_told};
-ghost use Rattle.pm_aux.specs.{Ends.{attached_behind, done_by, fault_by, IsMetBehind}, Runs.{at_end, runner, user_in, IsRunOf}, Work.{HasWorked, NotesInside, ReadsLog}};
+ghost use Rattle.pm_aux.specs.{Ends.{attached_behind, done_by, fault_by, IsMetBehind, LearnsWhy}, Runs.{at_end, runner, user_in, IsRunOf}, Work.{HasWorked, NotesInside, ReadsLog}};
 
 use crate::aux_done::AuxDone;
 use crate::cause::AuxiliaryEnd;
@@ -21,6 +21,7 @@ pub fn startup<S: Store, F: Life>(store: &mut S, life: &mut F) -> AuxDone
         × IsRunOf Startup (runner (S.stamp store.old) (F.child life.old))
         (at_end result (F.told life.new) (F.child life.new)) noted }
     ensures met { IsMetBehind (S.met store.new) result.fault }
+    ensures learned { LearnsWhy (S.learned store.new) result.fault }
 {
     AuxDone::by(read_log(store, life))
 }
@@ -34,6 +35,7 @@ fn read_log<S: Store, F: Life>(store: &mut S, life: &mut F) -> AuxiliaryEnd
         × IsRunOf Startup (runner (S.stamp store.old) (F.child life.old))
         (at_end (done_by result) (F.told life.new) (F.child life.new)) noted }
     ensures met { IsMetBehind (S.met store.new) (fault_by result) }
+    ensures learned { LearnsWhy (S.learned store.new) (fault_by result) }
 {
     let mut standing = Standing::none();
     listen(life, &mut standing);
@@ -58,6 +60,7 @@ fn redo<S: Store, F: Life>(store: &mut S, life: &mut F, generation: u32) -> Auxi
     ensures attached { (F.child life.new).attached ≡ attached_behind result (Some (Ok generation)) }
     ensures told { F.told life.new ≡ F.told life.old }
     ensures met { IsMetBehind (S.met store.new) (fault_by result) }
+    ensures learned { LearnsWhy (S.learned store.new) (fault_by result) }
 {
     let cause = enter_and_redo(store, life.pid(), generation);
     step_out(life, cause);
@@ -68,6 +71,7 @@ fn enter_and_redo<S: Store>(store: &mut S, pid: u32, generation: u32) -> Auxilia
     ensures notes { (noted : List BookEntry) × S.notes noted store.old store.new
         × NotesInside Startup (newcomer (S.stamp store.old) pid generation) result noted }
     ensures met { IsMetBehind (S.met store.new) (fault_by result) }
+    ensures learned { LearnsWhy (S.learned store.new) (fault_by result) }
 {
     match store.enter(pid, generation) {
         Ok(pass) => redo_and_leave(store, pass),
@@ -80,6 +84,7 @@ fn redo_and_leave<S: Store>(store: &mut S, pass: S::Pass) -> AuxiliaryEnd
     ensures notes { (noted : List BookEntry) × S.notes noted store.old store.new
         × HasWorked Startup (user_of (S.stamp store.old) (S.view pass)) result noted }
     ensures met { IsMetBehind (S.met store.new) (fault_by result) }
+    ensures learned { LearnsWhy (S.learned store.new) (fault_by result) }
 {
     let mut pass = pass;
     let cause = read(store, &mut pass);
@@ -94,6 +99,7 @@ fn read<S: Store>(store: &mut S, pass: &mut S::Pass) -> AuxiliaryEnd
     ensures notes { (noted : List BookEntry) × S.notes noted store.old store.new
         × ReadsLog (user_of (S.stamp store.old) (S.view pass.old)) result noted }
     ensures met { IsMetBehind (S.met store.new) (fault_by result) }
+    ensures learned { LearnsWhy (S.learned store.new) (fault_by result) }
 {
     match store.redo(pass) {
         Ok(kept) => AuxiliaryEnd::Redone { kept },

@@ -40,8 +40,8 @@ module _ {D : Type 0} where
   may_exit work o status h e well = (o, is_some (attached_of work), ends work o h e, λ aux active. well active)
 
 -- the run of a child that has exited
-abbrev pub run_of : {first : Beginning MailTold} {at : LifeModel MailTold} → GoesOn first at → Offer MailTold → Status → MailTold → List BookEntry → Run
-run_of {first} {at} on o status back noted =
+abbrev pub run_of : {first : Beginning MailTold} {at : LifeModel MailTold} → GoesOn first at → Offer MailTold → Status → MailTold → List BookEntry → (met : ℕ) → Run
+run_of {first} {at} on o status back noted met =
     record {
       child = past_child o status (is_some (attached_of at.post.knows.work)) back;
       heard = at.post.knows.notes.now;
@@ -50,12 +50,13 @@ run_of {first} {at} on o status back noted =
       looked = on.looked;
       made = on.made;
       noted = noted;
+      met = met;
     }
 
 pub has_run : (first : Beginning MailTold) (at : LifeModel MailTold) (after : PostModel MailTold) (pid : ℕ) (given : MailTold) (begun : HasBegun pid given first.post) (on : GoesOn first at)
-    (status : Status) (back : MailTold) (noted : List BookEntry) → IsLiving at.post.knows.work → HasExited status back at.post.knows after.knows
-    → after.table ≡ at.post.table → after.slot ≡ at.post.slot → HasRun (run_of on begun.offer status back noted) first.post after
-has_run first at after pid given begun on status back noted living exited t s =
+    (status : Status) (back : MailTold) (noted : List BookEntry) (met : ℕ) → IsLiving at.post.knows.work → HasExited status back at.post.knows after.knows
+    → after.table ≡ at.post.table → after.slot ≡ at.post.slot → HasRun (run_of on begun.offer status back noted met) first.post after
+has_run first at after pid given begun on status back noted met living exited t s =
     let o = begun.offer in
     let work = at.post.knows.work in
     let child : child_in work ≡ Some o = on.child ∙ ap child_in begun.runs in
@@ -74,20 +75,20 @@ has_run first at after pid given begun on status back noted living exited t s =
 
 module _ (stamp : Option ℕ) (limit : ℕ) (gives : ℕ → Type 0) where
   pub is_run : (first : Beginning MailTold) (at : LifeModel MailTold) (pid : ℕ) (given : MailTold) (begun : HasBegun pid given first.post) (on : GoesOn first at)
-      (status : Status) (back : MailTold) (noted : List BookEntry) → Does stamp first.seed limit gives given (run_of on begun.offer status back noted)
-      → IsRun stamp first.seed limit gives (run_of on begun.offer status back noted)
-  is_run first at pid given begun on status back noted does =
+      (status : Status) (back : MailTold) (noted : List BookEntry) (met : ℕ) → Does stamp first.seed limit gives given (run_of on begun.offer status back noted met)
+      → IsRun stamp first.seed limit gives (run_of on begun.offer status back noted met)
+  is_run first at pid given begun on status back noted met does =
       record {
         fits = subst (λ (t : MailTold). IsFor t begun.offer.kind) (sym begun.given_is) begun.fits;
-        does = subst (λ (t : MailTold). Does stamp first.seed limit gives t (run_of on begun.offer status back noted)) (sym begun.given_is) does;
+        does = subst (λ (t : MailTold). Does stamp first.seed limit gives t (run_of on begun.offer status back noted met)) (sym begun.given_is) does;
         met = on.met begun.offer (ap child_in begun.runs);
         makes = on.makes;
       }
 
 -- of a child that closes its worker
-pub closed : (before after : PostModel MailTold) (pid : ℕ) (begun : HasBegun pid mail.Close before) → HasExited (Code 0) mail.Close before.knows after.knows
-    → after.table ≡ before.table → after.slot ≡ before.slot → HasRun (close_run (child_slots before.table.slots) begun.offer) before after
-closed before after pid begun exited t s =
+pub closed : (before after : PostModel MailTold) (pid met : ℕ) (begun : HasBegun pid mail.Close before) → HasExited (Code 0) mail.Close before.knows after.knows
+    → after.table ≡ before.table → after.slot ≡ before.slot → HasRun (close_run (child_slots before.table.slots) met begun.offer) before after
+closed before after pid met begun exited t s =
     let o = begun.offer in
     let now = exited o false (subst (λ w. MayEnd w o false) (sym begun.runs) (refl, refl)) in
     record {
@@ -102,12 +103,12 @@ closed before after pid begun exited t s =
       cancels = ap (λ w. w.notes.cancels) now ∙ sym (append-nil before.knows.notes.cancels);
     }
 
-pub closes : (stamp : Option ℕ) (seed : List ℕ) (limit : ℕ) (gives : ℕ → Type 0) (post : PostModel MailTold) (pid : ℕ) (begun : HasBegun pid mail.Close post)
-    → IsRun stamp seed limit gives (close_run (child_slots post.table.slots) begun.offer)
-closes stamp seed limit gives post pid begun =
+pub closes : (stamp : Option ℕ) (seed : List ℕ) (limit : ℕ) (gives : ℕ → Type 0) (post : PostModel MailTold) (pid met : ℕ) (begun : HasBegun pid mail.Close post)
+    → IsRun stamp seed limit gives (close_run (child_slots post.table.slots) met begun.offer)
+closes stamp seed limit gives post pid met begun =
     record {
       fits = subst (λ (t : MailTold). IsFor t begun.offer.kind) (sym begun.given_is) begun.fits;
-      does = subst (λ (t : MailTold). Does stamp seed limit gives t (close_run (child_slots post.table.slots) begun.offer)) (sym begun.given_is) refl;
+      does = subst (λ (t : MailTold). Does stamp seed limit gives t (close_run (child_slots post.table.slots) met begun.offer)) (sym begun.given_is) refl;
       met = tt;
       makes = (refl, refl);
     }

@@ -1,4 +1,5 @@
 mod Auxiliaries
 mod Exits
+mod Known
 mod Loops
 mod Sessions

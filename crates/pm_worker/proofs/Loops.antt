@@ -1,8 +1,8 @@
 -- What a worker has done, one run longer.
-use Rattle.std.{proofs.{Common.{ℕ, ◌≡◌, ◌∙◌, ◌++◌, List, [], ◌∷◌, Option, map, ap, sym, refl, subst}, lemmas.{List.{append-nil, append_assoc}, Grind.flat_map-append}}, specs.List.flat_map}
-use Rattle.pm_query.specs.{pm_facts.Lists.each_more, declared.book.BookEntry.BookEntry}
+use Rattle.std.{proofs.{Common.{ℕ, ◌≡◌, ◌≤◌, ◌∙◌, ◌++◌, List, [], ◌∷◌, Option, map, ap, sym, refl, subst, arith}, lemmas.{List.{append-nil, append_assoc}, Grind.flat_map-append}}, specs.List.{flat_map, AllByRecursion}}
+use Rattle.pm_query.specs.{pm_facts.Lists.each_more, declared.book.BookEntry.BookEntry, Calls.{DiskFact, unread_for}}
 use Rattle.pm_board.specs.{declared.views.Work.TheVariants.Idle, Models.PostModel, Slots.child_slots}
-use Rattle.pm_worker.specs.{declared.mail.MailTold.MailTold, Runs.{Run, IsRun, HasRun, noted_by, HasWorked}}
+use Rattle.pm_worker.specs.{declared.mail.MailTold.MailTold, Runs.{Run, IsRun, IsKnownBy, noted_by, HasRunOne, HasWorked}}
 
 maps_more : {A B : Type 0} (f : A → B) (xs : List A) (x : A) → map f (xs ++ x ∷ []) ≡ map f xs ++ f x ∷ []
 maps_more f [] x = refl
@@ -27,8 +27,20 @@ pub record Looked (before now : PostModel MailTold) : Type 0 where
   pub looks : now.knows.notes.looked ≡ before.knows.notes.looked
   pub cancels : now.knows.notes.cancels ≡ before.knows.notes.cancels
 
-module _ {S : Type 0} (notes : List BookEntry → S → S → Type 0) (stamp : Option ℕ) (seed : List ℕ) (limit : ℕ) (gives : ℕ → Type 0) where
-  pub nothing : (post : PostModel MailTold) (store : S) → post.knows.work ≡ Idle → notes [] store store → HasWorked notes stamp seed limit gives [] post post store store
+-- what was known of runs is known later still
+known_later : (before now : ℕ) (knew knows : DiskFact → Type 0) (runs : List Run) → before ≤ now → ((fact : DiskFact) → knew fact → knows fact) → AllByRecursion (IsKnownBy before knew) runs
+    → AllByRecursion (IsKnownBy now knows) runs
+known_later before now knew knows [] rises keeps all = tt
+known_later before now knew knows (run ∷ runs) rises keeps all = (
+  record {
+    met_by_then = omega (arith, all.0.met_by_then, rises);
+    reason = λ fault kept first back. keeps (unread_for fault) (all.0.reason fault kept first back);
+  },
+  known_later before now knew knows runs rises keeps all.1,
+)
+
+module _ {S : Type 0} (notes : List BookEntry → S → S → Type 0) (met : S → ℕ) (learned : S → DiskFact → Type 0) (stamp : Option ℕ) (seed : List ℕ) (limit : ℕ) (gives : ℕ → Type 0) where
+  pub nothing : (post : PostModel MailTold) (store : S) → post.knows.work ≡ Idle → notes [] store store → HasWorked notes met learned stamp seed limit gives [] post post store store
   nothing post store idle rest =
       record {
         each = tt;
@@ -44,11 +56,12 @@ module _ {S : Type 0} (notes : List BookEntry → S → S → Type 0) (stamp : O
               cancels = sym (append-nil post.knows.notes.cancels);
             };
         store = rest;
+        known = tt;
       }
 
   -- a look that found no child
-  pub looked : (runs : List Run) (begun before now : PostModel MailTold) (s0 s1 : S) → HasWorked notes stamp seed limit gives runs begun before s0 s1 → Looked before now → now.knows.work ≡ Idle
-      → HasWorked notes stamp seed limit gives runs begun now s0 s1
+  pub looked : (runs : List Run) (begun before now : PostModel MailTold) (s0 s1 : S) → HasWorked notes met learned stamp seed limit gives runs begun before s0 s1 → Looked before now → now.knows.work ≡ Idle
+      → HasWorked notes met learned stamp seed limit gives runs begun now s0 s1
   looked runs begun before now s0 s1 w l idle =
       record {
         each = w.each;
@@ -64,15 +77,20 @@ module _ {S : Type 0} (notes : List BookEntry → S → S → Type 0) (stamp : O
               cancels = l.cancels ∙ w.post.cancels;
             };
         store = w.store;
+        known = w.known;
       }
 
   -- a child that was started and has ended
   pub ran : (in_turn : (before between now : S) (first second : List BookEntry) → notes first before between → notes second between now → notes (first ++ second) before now)
-      (runs : List Run) (begun before started now : PostModel MailTold) (s0 s1 s2 : S) (run : Run) → HasWorked notes stamp seed limit gives runs begun before s0 s1
-      → Looked before started → notes run.noted s1 s2 → IsRun stamp seed limit gives run → HasRun run started now → HasWorked notes stamp seed limit gives (runs ++ run ∷ []) begun now s0 s2
-  ran in_turn runs begun before started now s0 s1 s2 run w l n is has =
+      (rises : (before now : S) (entries : List BookEntry) → notes entries before now → met before ≤ met now)
+      (keeps : (before now : S) (entries : List BookEntry) → notes entries before now → (fact : DiskFact) → learned before fact → learned now fact)
+      (runs : List Run) (begun before started now : PostModel MailTold) (s0 s1 s2 : S) → HasWorked notes met learned stamp seed limit gives runs begun before s0 s1
+      → Looked before started → (one : HasRunOne notes met learned stamp seed limit gives started now s1 s2) → HasWorked notes met learned stamp seed limit gives (runs ++ one.run ∷ []) begun now s0 s2
+  ran in_turn rises keeps runs begun before started now s0 s1 s2 w l one =
+      let run = one.run in
+      let has = one.post in
       record {
-        each = each_more (IsRun stamp seed limit gives) runs run w.each is;
+        each = each_more (IsRun stamp seed limit gives) runs run w.each one.is;
         post =
             record {
               table = has.table ∙ (l.table ∙ w.post.table);
@@ -84,5 +102,6 @@ module _ {S : Type 0} (notes : List BookEntry → S → S → Type 0) (stamp : O
               looked = grows_by (λ (r : Run). r.looked) begun.knows.notes.looked started.knows.notes.looked now.knows.notes.looked runs run has.looked (l.looks ∙ w.post.looked);
               cancels = grows_by (λ (r : Run). r.made) begun.knows.notes.cancels started.knows.notes.cancels now.knows.notes.cancels runs run has.cancels (l.cancels ∙ w.post.cancels);
             };
-        store = subst (λ es. notes es s0 s2) (sym (flat_more (λ (r : Run). r.noted) runs run)) (in_turn s0 s1 s2 (noted_by runs) run.noted w.store n);
+        store = subst (λ es. notes es s0 s2) (sym (flat_more (λ (r : Run). r.noted) runs run)) (in_turn s0 s1 s2 (noted_by runs) run.noted w.store one.store);
+        known = each_more (IsKnownBy (met s2) (learned s2)) runs run (known_later (met s1) (met s2) (learned s1) (learned s2) runs (rises s1 s2 run.noted one.store) (keeps s1 s2 run.noted one.store) w.known) one.known;
       }

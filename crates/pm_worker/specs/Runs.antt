@@ -1,15 +1,16 @@
 -- The runs of the children of one worker.
 use Rattle.std.specs.{Prelude.{◌≡◌, ◌≢◌, ℕ, ◌<◌, ◌≤◌, false, List, [], ◌∷◌, ◌++◌, map, Option, Some, None, is_some}, List.{flat_map, AllByRecursion}}
-use Rattle.pm_session.specs.{pm_outside.pm_disk.Cause.Rose, pm_admit.declared.Cac.Cac, pm_child_life.Life.{Told, nothing_told}, pm_session_exchange.Sent.Turn, Session.{Ending, status_of, between, IsSession, IsCaused, HasAskedFor, HeedsTold, IsAttachedBehind, HasCancelled}}
+use Rattle.pm_session.specs.{pm_outside.pm_disk.Cause.Rose, pm_admit.declared.Cac.Cac, pm_child_life.Life.{Told, nothing_told}, pm_session_exchange.{Answers.IsOvertakenBy, Sent.Turn}, Session.{Ending, status_of, between, IsSession, IsCaused, HasAskedFor, HeedsTold, IsAttachedBehind, HasCancelled}}
 use Rattle.pm_board.specs.{pm_exit.declared.child.{Kind.Kind, Status.TheVariants.Code}, pm_keys.CancelKey.cancel_key, declared.views.{Cancel.Cancel, Heard.Heard, LatchLook.LatchLook, Offer.Offer, PastChild.PastChild, Work.TheVariants.{Idle, Inactive}}, Models.PostModel, Rule.no_signals, Slots.child_slots, Told.child_in}
 use Rattle.pm_board.specs.pm_exit.declared.child.Kind.TheVariants as kinds
-use Rattle.pm_aux.specs.{pm_query.{declared.{book.BookEntry.BookEntry, store.StoreNo.StoreNo}, Calls.newcomer}, Runs.IsRunOf}
+use Rattle.pm_aux.specs.{pm_query.{pm_record.declared.fault.RedoFault.RedoFault, declared.{book.BookEntry.BookEntry, store.StoreNo.{StoreNo, TheVariants.Redo}}, Calls.{newcomer, DiskFact, unread_for}}, Ends.IsMetBehind, Runs.IsRunOf}
 use Rattle.pm_board_life.specs.Lives.{told_by, child_as, MetRightly, Makes}
 use Rattle.pm_worker.specs.{declared.mail.{LinkTold.LinkTold, MailTold.MailTold}, Mails.{traffic_in, IsFor}}
 use Rattle.pm_worker.specs.declared.mail.MailTold.TheVariants as mail
 
 -- A run: the child as its slot lists it, with the mails both ways; what it heard; the cancel that it asked for, a pid and a key, with
--- the number of slots on its board, the latches that it looked at, and the cancels that it made; and what it noted in the book.
+-- the number of slots on its board, the latches that it looked at, and the cancels that it made; what it noted in the book; and the
+-- generation that its worker's store had met by its end.
 pub record Run : Type 0 where
   pub child : PastChild MailTold
   pub heard : Heard
@@ -18,6 +19,7 @@ pub record Run : Type 0 where
   pub looked : List LatchLook
   pub made : List Cancel
   pub noted : List BookEntry
+  pub met : ℕ
 
 abbrev pub told_in : Run → Told
 told_in run = told_by run.heard run.asked
@@ -43,10 +45,12 @@ pub record IsAuxRun (stamp : Option ℕ) (kind : Kind) (run : Run) : Type 0 wher
       IsRunOf kind (record { pid = run.child.offer.pid; stamp = stamp })
       (record { done = record { status = run.child.status; fault = fault; kept = kept }; told = Some (told_in run); attached = attached }) run.noted
   pub active : run.child.was_active ≡ is_some attached
+  -- who ends since the store is in another generation is told that one
+  pub another : IsMetBehind run.met fault
 
 -- the child that closes its worker does nothing, and exits with code 0
-abbrev pub close_run : (slots : ℕ) → Offer MailTold → Run
-close_run slots o = record {
+abbrev pub close_run : (slots met : ℕ) → Offer MailTold → Run
+close_run slots met o = record {
   child = record { offer = o; status = Code 0; was_active = false; back = mail.Close };
   heard = no_signals;
   asked = None;
@@ -54,6 +58,7 @@ close_run slots o = record {
   looked = [];
   made = [];
   noted = [];
+  met = met;
 }
 
 -- what a worker goes by: the generation of its store, if that stays, the seed of its keys, the limit of authentication, and
@@ -82,6 +87,7 @@ module _ (stamp : Option ℕ) (seed : List ℕ) (limit : ℕ) (gives : ℕ → T
     pub active : run.child.was_active ≡ is_some attached
     pub behind : IsAttachedBehind ending generation (child_as run.child.offer attached)
     pub cancels : HasCancelled ending.cause (traffic_in back) (Some (told_in run))
+    pub overtaken : IsOvertakenBy run.met generation ending.exit
 
   -- what a child does that was given a mail which tells this
   abbrev pub Does : MailTold → Run → Type 0
@@ -89,7 +95,7 @@ module _ (stamp : Option ℕ) (seed : List ℕ) (limit : ℕ) (gives : ℕ → T
   Does mail.Startup run = IsAuxRun stamp kinds.Startup run
   Does mail.Checkpointer run = IsAuxRun stamp kinds.Checkpointer run
   Does mail.Writer run = IsAuxRun stamp kinds.Writer run
-  Does mail.Close run = run ≡ close_run run.slots run.child.offer
+  Does mail.Close run = run ≡ close_run run.slots run.met run.child.offer
   Does (mail.Served link) run = ⊥
   Does (mail.Aux fault kept) run = ⊥
 
@@ -100,6 +106,14 @@ module _ (stamp : Option ℕ) (seed : List ℕ) (limit : ℕ) (gives : ℕ → T
     pub does : Does run.child.offer.given run
     pub met : MetRightly run.child.offer run.heard.met
     pub makes : Makes seed run.slots run.asked run.looked run.made
+
+-- What is known of a run at the end of its worker's store, which has met this generation and learned this of its disk.
+pub record IsKnownBy (met : ℕ) (learned : DiskFact → Type 0) (run : Run) : Type 0 where
+  pub met_by_then : run.met ≤ met
+  -- a startup child that couldn't read the log tells a reason that was learned
+  pub reason :
+      (fault : RedoFault) (kept : Option ℕ) → run.child.offer.kind ≡ kinds.Startup → run.child.back ≡ mail.Aux (Some (Redo fault)) kept
+      → learned (unread_for fault)
 
 -- ---- what a worker's post has of its runs
 
@@ -136,13 +150,24 @@ pub record HasRuns (runs : List Run) (before after : PostModel MailTold) : Type 
 abbrev pub NoneCloses : List Run → Type 0
 NoneCloses runs = AllByRecursion (λ run. run.child.offer.given ≢ mail.Close) runs
 
-module _ {S : Type 0} (notes : List BookEntry → S → S → Type 0) (stamp : Option ℕ) (seed : List ℕ) (limit : ℕ) (gives : ℕ → Type 0) where
+-- what a worker's store notes, the generation that it has met, what it has learned of its disk, and what the worker goes by
+module _ {S : Type 0} (notes : List BookEntry → S → S → Type 0) (met : S → ℕ) (learned : S → DiskFact → Type 0)
+    (stamp : Option ℕ) (seed : List ℕ) (limit : ℕ) (gives : ℕ → Type 0) where
+  -- Between two moments a worker has had one run: its post lists it, and it noted all that its store's own calls have noted.
+  pub record HasRunOne (post_before post_now : PostModel MailTold) (store_before store_now : S) : Type 0 where
+    pub run : Run
+    pub is : IsRun stamp seed limit gives run
+    pub post : HasRun run post_before post_now
+    pub store : notes run.noted store_before store_now
+    pub known : IsKnownBy (met store_now) (learned store_now) run
+
   -- Between two moments a worker has had these runs: its post lists them, and they noted, one after the other, all that its store's
-  -- own calls have noted.
+  -- own calls have noted. Each is known by the store as it is now.
   pub record HasWorked (runs : List Run) (post_before post_now : PostModel MailTold) (store_before store_now : S) : Type 0 where
     pub each : AllByRecursion (IsRun stamp seed limit gives) runs
     pub post : HasRuns runs post_before post_now
     pub store : notes (noted_by runs) store_before store_now
+    pub known : AllByRecursion (IsKnownBy (met store_now) (learned store_now)) runs
 
   -- some runs, and goes on
   pub record GoesOnWorking (post_before post_now : PostModel MailTold) (store_before store_now : S) : Type 0 where

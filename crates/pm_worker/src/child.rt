@@ -20,8 +20,8 @@ fn work_off<R: Wait, C: Clock, L: Link + Drop, S: Store>(
     store: &mut S,
 ) -> Post<Mail<L>>
     requires { post.knows.work ≡ Idle }
-    ensures { HasClosed S.notes (S.stamp store.old) tools.now.seed tools.now.conf.authentication_ms
-        (C.gives tools.now.clock) post result store.old store.new }
+    ensures { HasClosed S.notes S.met S.learned (S.stamp store.old) tools.now.seed
+        tools.now.conf.authentication_ms (C.gives tools.now.clock) post result store.old store.new }
 {
     let mut post = post;
     for _ in tools.rt.forever() {
@@ -78,8 +78,9 @@ impl<R: Wait + Drop, C: Clock + Drop, L: Link + Drop, S: Store> Task for Child<R
 
     ghost can_work = { λ child. child.post.knows.work ≡ Idle };
 
-    ghost gives = { λ child output. HasClosed S.notes (S.stamp child.store) child.tools.seed
-        child.tools.conf.authentication_ms (C.gives child.tools.clock) child.post output.0 child.store output.1 };
+    ghost gives = { λ child output. HasClosed S.notes S.met S.learned (S.stamp child.store)
+        child.tools.seed child.tools.conf.authentication_ms (C.gives child.tools.clock) child.post
+        output.0 child.store output.1 };
 
     fn work(self) -> (Post<Mail<L>>, S) {
         let Child { tools, post, store } = self;

@@ -1,10 +1,11 @@
 //! One run of a child, from its start to its exit.
 ghost use Rattle.std.specs.Prelude.{◌≡◌, ◌↔◌, ◌<◌, ℕ, true, List, Some, None, IfSome, IsTrue};
 ghost use Rattle.pm_board.specs.{Places.is_auxiliary, Slots.child_slots, pm_keys.CancelKey.cancel_key, pm_child_life.Life.nothing_told};
-ghost use Rattle.pm_aux.specs.{pm_query.declared.book.BookEntry.BookEntry, Runs.{IsRunOf, runner, at_end}};
+ghost use Rattle.pm_exit.specs.declared.child.Kind.TheVariants.{Startup};
+ghost use Rattle.pm_aux.specs.{pm_query.declared.book.BookEntry.BookEntry, Ends.{IsMetBehind, LearnsWhy}, Runs.{IsRunOf, runner, at_end}};
 ghost use Rattle.pm_board_life.specs.Lives.{beginning};
 ghost use Rattle.pm_worker.specs.declared.mail.MailTold.TheVariants as told;
-ghost use Rattle.pm_worker.specs.{Mails.{link_told, mail_told, aux_mail}, Runs.{Run, HasBegun, IsRun, HasRun, close_run}};
+ghost use Rattle.pm_worker.specs.{Mails.{link_told, mail_told, aux_mail}, Runs.{HasBegun, HasRun, HasRunOne, close_run}};
 
 use crate::mail::{Mail, MailTold, NewLink};
 use crate::tools::Tools;
@@ -41,10 +42,9 @@ fn serve_one<R: Wait, C: Clock, L: Link + Drop, S: Store, K: Begun<MailTold>>(
 ) -> Post<Mail<L>>
     requires begun { K.begun ≡ Some (beginning post tools.now.seed) }
     requires started { HasBegun pid (told.Serve (link_told L.Link link.link) decision) post }
-    ensures { (run : Run) × S.notes run.noted store.old store.new
-        × IsRun (S.stamp store.old) tools.now.seed tools.now.conf.authentication_ms
-        (C.gives tools.now.clock) run × HasRun run post result
-        × (run.child.offer.given ≡ told.Serve (link_told L.Link link.link) decision) }
+    ensures { (one : HasRunOne S.notes S.met S.learned (S.stamp store.old) tools.now.seed
+        tools.now.conf.authentication_ms (C.gives tools.now.clock) post result store.old store.new)
+        × (one.run.child.offer.given ≡ told.Serve (link_told L.Link link.link) decision) }
 {
     let life = PostLife::<Mail<L>, K>::new(post, pid, tools.seed);
     let link = link.open();
@@ -72,9 +72,11 @@ fn tend<R: Wait, C: Clock, S: Store, F: Life>(
     requires free { (F.child life.old).attached ≡ None }
     requires may { ¬ (IsTrue (F.child life.old).is_dead_end) }
     requires untold { IfSome (F.told life.old) (λ told. told ≡ nothing_told) }
-    ensures { (noted : List BookEntry) × S.notes noted store.old store.new
+    ensures run { (noted : List BookEntry) × S.notes noted store.old store.new
         × IsRunOf kind (runner (S.stamp store.old) (F.child life.old))
         (at_end result (F.told life.new) (F.child life.new)) noted }
+    ensures met { IsMetBehind (S.met store.new) result.fault }
+    ensures learned { kind ≡ Startup → LearnsWhy (S.learned store.new) result.fault }
 {
     match kind {
         Kind::Startup => startup(store, life),
@@ -95,10 +97,9 @@ fn tend_one<R: Wait, C: Clock, L: Link + Drop, S: Store, K: Begun<MailTold>>(
     requires begun { K.begun ≡ Some (beginning post tools.now.seed) }
     requires kind { is_auxiliary kind ≡ true }
     requires started { HasBegun pid (aux_mail kind) post }
-    ensures { (run : Run) × S.notes run.noted store.old store.new
-        × IsRun (S.stamp store.old) tools.now.seed tools.now.conf.authentication_ms
-        (C.gives tools.now.clock) run × HasRun run post result
-        × (run.child.offer.given ≡ aux_mail kind) }
+    ensures { (one : HasRunOne S.notes S.met S.learned (S.stamp store.old) tools.now.seed
+        tools.now.conf.authentication_ms (C.gives tools.now.clock) post result store.old store.new)
+        × (one.run.child.offer.given ≡ aux_mail kind) }
 {
     let mut life = PostLife::<Mail<L>, K>::new(post, pid, tools.seed);
     let done = tend(tools, kind, store, &mut life);
@@ -116,8 +117,8 @@ fn tend_one<R: Wait, C: Clock, L: Link + Drop, S: Store, K: Begun<MailTold>>(
 // Ends the child that closes the worker.
 fn close_one<L: Link + Drop>(post: Post<Mail<L>>) -> Post<Mail<L>>
     requires { (pid : ℕ) × HasBegun pid told.Close post }
-    ensures { (pid : ℕ) (begun : HasBegun pid told.Close post)
-        → HasRun (close_run (child_slots post.table.slots) begun.offer) post result }
+    ensures { (pid met : ℕ) (begun : HasBegun pid told.Close post)
+        → HasRun (close_run (child_slots post.table.slots) met begun.offer) post result }
 {
     let mut post = post;
     post.exit(Status::Code(0), Mail::Close);
@@ -133,10 +134,9 @@ pub(crate) fn run_child<R: Wait, C: Clock, L: Link + Drop, S: Store>(
     store: &mut S,
 ) -> (Post<Mail<L>>, bool)
     requires { HasBegun pid (mail_told L.Link job) post }
-    ensures { (run : Run) × S.notes run.noted store.old store.new
-        × IsRun (S.stamp store.old) tools.now.seed tools.now.conf.authentication_ms
-        (C.gives tools.now.clock) run × HasRun run post result.0
-        × (IsTrue result.1 ↔ (run.child.offer.given ≡ told.Close)) }
+    ensures { (one : HasRunOne S.notes S.met S.learned (S.stamp store.old) tools.now.seed
+        tools.now.conf.authentication_ms (C.gives tools.now.clock) post result.0 store.old store.new)
+        × (IsTrue result.1 ↔ (one.run.child.offer.given ≡ told.Close)) }
 {
     match job {
         Mail::Serve { link, decision } => {

@@ -2,7 +2,7 @@ use Rattle.std.proofs.Common.{◌≡◌, ◌≢◌, ◌∙◌, ◌++◌, ◌∷�
 use Rattle.pm_query.specs.pm_facts.Lists.{each_more}
 use Rattle.pm_exit.specs.declared.child.Kind.{Kind}
 use Rattle.pm_worker.specs.declared.mail.MailTold.TheVariants as mail
-use Rattle.pm_worker.{specs.{Mails.{mail_told, IsFor}, Runs.{Run, IsRun, noted_by}}, proofs.Loops.{nothing, ran, Looked}}
+use Rattle.pm_worker.{specs.{Mails.{mail_told, IsFor}, Runs.{Run, IsRun, noted_by, HasRunOne}}, proofs.Loops.{nothing, ran, Looked}}
 use Rattle.pm_worker.proofs.child.work_off.Goals as goal
 
 pub loop-init : goal.loop-init
@@ -13,7 +13,7 @@ loop-init g c =
           record {
             runs = [];
             worked =
-                nothing g.S.Store.notes (g.S.Store.stamp c.args.store.now) tools.seed tools.conf.authentication_ms (g.C.Clock.gives tools.clock) c.args.post c.args.store.now c.requires
+                nothing g.S.Store.notes g.S.Store.met g.S.Store.learned (g.S.Store.stamp c.args.store.now) tools.seed tools.conf.authentication_ms (g.C.Clock.gives tools.clock) c.args.post c.args.store.now c.requires
                 (g.met.S.Store.at_rest c.args.store.now);
             none = tt;
           };
@@ -41,7 +41,16 @@ returns-then-closed g c =
     let tools = c.args.tools.now in
     let gives = g.C.Clock.gives tools.clock in
     let limit = tools.conf.authentication_ms in
-    let is = subst (λ stamp. IsRun stamp tools.seed limit gives r.0) (g.met.S.Store.stays c.args.store.now c.loop.store (noted_by w.runs) w.worked.store) r.2 in
+    let run = r.0.run in
+    let one : HasRunOne g.S.Store.notes g.S.Store.met g.S.Store.learned (g.S.Store.stamp c.args.store.now) tools.seed limit gives c.start.new.self c.run_child-next.result.0 c.loop.store
+    c.run_child-next.new.store =
+    record {
+      run = run;
+      is = subst (λ stamp. IsRun stamp tools.seed limit gives run) (g.met.S.Store.stays c.args.store.now c.loop.store (noted_by w.runs) w.worked.store) r.0.is;
+      post = r.0.post;
+      store = r.0.store;
+      known = r.0.known;
+    } in
     let looked_ : Looked c.loop.post c.start.new.self =
     record {
       table = c.in-Job.ensures.table;
@@ -53,12 +62,12 @@ returns-then-closed g c =
     } in
     record {
       front = w.runs;
-      last = r.0;
+      last = run;
       worked =
-          ran g.S.Store.notes (g.S.Store.stamp c.args.store.now) tools.seed limit gives g.met.S.Store.in_turn w.runs c.args.post c.loop.post c.start.new.self c.run_child-next.result.0
-          c.args.store.now c.loop.store c.run_child-next.new.store r.0 w.worked looked_ r.1 is r.3;
+          ran g.S.Store.notes g.S.Store.met g.S.Store.learned (g.S.Store.stamp c.args.store.now) tools.seed limit gives g.met.S.Store.in_turn g.met.S.Store.rises g.met.S.Store.keeps w.runs
+          c.args.post c.loop.post c.start.new.self c.run_child-next.result.0 c.args.store.now c.loop.store c.run_child-next.new.store w.worked looked_ one;
       earlier = w.none;
-      closes = r.4.0 c.if-closed.true;
+      closes = r.1.0 c.if-closed.true;
     }
 
 pub loop-preserved : goal.loop-preserved
@@ -69,7 +78,16 @@ loop-preserved g c =
     let tools = c.args.tools.now in
     let gives = g.C.Clock.gives tools.clock in
     let limit = tools.conf.authentication_ms in
-    let is = subst (λ stamp. IsRun stamp tools.seed limit gives r.0) (g.met.S.Store.stays c.args.store.now c.loop.store (noted_by w.runs) w.worked.store) r.2 in
+    let run = r.0.run in
+    let one : HasRunOne g.S.Store.notes g.S.Store.met g.S.Store.learned (g.S.Store.stamp c.args.store.now) tools.seed limit gives c.start.new.self c.run_child-next.result.0 c.loop.store
+    c.run_child-next.new.store =
+    record {
+      run = run;
+      is = subst (λ stamp. IsRun stamp tools.seed limit gives run) (g.met.S.Store.stays c.args.store.now c.loop.store (noted_by w.runs) w.worked.store) r.0.is;
+      post = r.0.post;
+      store = r.0.store;
+      known = r.0.known;
+    } in
     let looked_ : Looked c.loop.post c.start.new.self =
     record {
       table = c.in-Job.ensures.table;
@@ -79,15 +97,15 @@ loop-preserved g c =
       looks = ap (λ v. v.notes.looked) met.1.5;
       cancels = ap (λ v. v.notes.cancels) met.1.5;
     } in
-    let goes_on : r.0.child.offer.given ≢ mail.Close = (λ e. let no_ : false ≡ true = sym c.if-closed.false ∙ r.4.1 e in absurd (cc)) in
+    let goes_on : run.child.offer.given ≢ mail.Close = (λ e. let no_ : false ≡ true = sym c.if-closed.false ∙ r.1.1 e in absurd (cc)) in
     record {
       worked =
           record {
-            runs = w.runs ++ r.0 ∷ [];
+            runs = w.runs ++ run ∷ [];
             worked =
-                ran g.S.Store.notes (g.S.Store.stamp c.args.store.now) tools.seed limit gives g.met.S.Store.in_turn w.runs c.args.post c.loop.post c.start.new.self c.run_child-next.result.0
-                c.args.store.now c.loop.store c.run_child-next.new.store r.0 w.worked looked_ r.1 is r.3;
-            none = each_more (λ (run : Run). run.child.offer.given ≢ mail.Close) w.runs r.0 w.none goes_on;
+                ran g.S.Store.notes g.S.Store.met g.S.Store.learned (g.S.Store.stamp c.args.store.now) tools.seed limit gives g.met.S.Store.in_turn g.met.S.Store.rises g.met.S.Store.keeps
+                w.runs c.args.post c.loop.post c.start.new.self c.run_child-next.result.0 c.args.store.now c.loop.store c.run_child-next.new.store w.worked looked_ one;
+            none = each_more (λ (it : Run). it.child.offer.given ≢ mail.Close) w.runs run w.none goes_on;
           };
       next = tt;
       ends = tt;

@@ -10,4 +10,4 @@ exit-requires-clause-back g c p active ends =
     (ap (λ q. q.kind) (ends_as c.args.post.knows.work o p active (ap child_in begun.runs) ends) ∙ begun.fits, refl)
 
 pub returns : goal.returns
-returns g c pid begun = closed c.args.post c.exit.new.self pid begun c.exit.ensures.knows c.exit.ensures.table c.exit.ensures.slot
+returns g c pid met begun = closed c.args.post c.exit.new.self pid met begun c.exit.ensures.knows c.exit.ensures.table c.exit.ensures.slot

@@ -1,8 +1,8 @@
-use Rattle.std.proofs.Common.{ℕ, ◌≡◌, ◌<◌, ◌≤◌, ◌∙◌, Some, None, ap, sym, subst}
+use Rattle.std.proofs.Common.{ℕ, ◌≡◌, ◌<◌, ◌≤◌, ◌∙◌, Some, None, refl, ap, sym, subst}
 use Rattle.pm_board.specs.{pm_exit.Ends.is_exit_0, Places.is_connection, Slots.child_slots, Told.child_in, pm_keys.CancelKey.cancel_key}
 use Rattle.pm_session.specs.{pm_child_life.Life.nothing_told, Session.{IsAttachedBehind, HasAskedFor, IsCaused, HeedsTold, HasCancelled, IsSession, between}, pm_outside.pm_disk.Cause.Rose, pm_query.Calls.newcomer}
 use Rattle.pm_board_life.specs.Lives.{LifeModel, beginning, child_by, child_as, attached_of, told_by, GoesOn, GoesOnFrom}
-use Rattle.pm_worker.{specs.{declared.mail.MailTold.{MailTold, TheVariants.{Serve, Served}}, Mails.link_told}, proofs.{Exits.{child_is, ends_as, may_exit, is_run, has_run, run_of}, Sessions.{told_whole, stays_inside, session_run}}}
+use Rattle.pm_worker.{specs.{declared.mail.MailTold.{MailTold, TheVariants.{Serve, Served}}, Mails.link_told}, proofs.{Exits.{child_is, ends_as, may_exit, is_run, has_run, run_of}, Known.known_served, Sessions.{told_whole, stays_inside, session_run}}}
 use Rattle.pm_worker.proofs.runs.serve_one.Goals as goal
 
 pub exit-requires-clause-runs : goal.exit-requires-clause-runs
@@ -54,9 +54,10 @@ returns g c =
     let first = ap (λ l. told_by l.post.knows.notes.now l.cancel) c.new-life.ensures ∙ ap (λ h. told_by h None) begun.untold in
     let pid = ap (λ l. (child_by l.post.knows.work).pid) c.new-life.ensures ∙ ap (λ w. (child_by w).pid) begun.runs in
     let named = (child_by c.new-life.result.post.knows.work).pid in
-    let run =
+    let met = g.S.Store.met c.serve-status.new.store in
+    let session =
     session_run g.S.Store.notes stamp tools.seed limit gives link back c.args.decision o
-    c.serve-status.result.status at.knows.notes.now life.cancel (child_slots c.args.post.table.slots) on.looked on.made (attached_of at.knows.work) s.0 s.1 s.2 c.args.store.now c.serve-status.new.store traffic
+    c.serve-status.result.status at.knows.notes.now life.cancel (child_slots c.args.post.table.slots) on.looked on.made met (attached_of at.knows.work) s.0 s.1 s.2 c.args.store.now c.serve-status.new.store traffic
     c.key_of-key.result named (told_whole traffic) pid
     (subst (λ (x : ℕ). 0 < x → c.key_of-key.result ≡ cancel_key tools.seed x) (sym (pid ∙ begun.pid_is)) c.key_of-key.ensures)
     (c.serve-status.ensures.number ∙ ap g.L.Link.number c.open-link.ensures.same)
@@ -69,12 +70,18 @@ returns g c =
     (subst (λ t. HasAskedFor s.1 (Some nothing_told) (Some t)) now (subst (λ t. HasAskedFor s.1 (Some t) (Some (told_by life.post.knows.notes.now life.cancel))) first s.6))
     (subst (HeedsTold c.serve-status.result.status) now c.serve-status.ensures.heeds)
     behind
-    (subst (λ t. HasCancelled s.0.cause traffic (Some t)) now s.8) in
-    let given = Serve link c.args.decision in (
-      run_of on o c.serve-status.result.status (Served back) run.0,
-      run.1,
-      is_run stamp limit gives start end c.args.pid given begun on c.serve-status.result.status (Served back) run.0 run.2,
-      has_run start end c.exit.new.self c.args.pid given begun on c.serve-status.result.status (Served back) run.0 c.into_post-post.ensures.living c.exit.ensures.knows
-          c.exit.ensures.table c.exit.ensures.slot,
+    (subst (λ t. HasCancelled s.0.cause traffic (Some t)) now s.8)
+    s.9 in
+    let given = Serve link c.args.decision in
+    let status = c.serve-status.result.status in
+    let run = run_of on o status (Served back) session.0 met in (
+      record {
+        run = run;
+        is = is_run stamp limit gives start end c.args.pid given begun on status (Served back) session.0 met session.2;
+        post = has_run start end c.exit.new.self c.args.pid given begun on status (Served back) session.0 met c.into_post-post.ensures.living c.exit.ensures.knows
+            c.exit.ensures.table c.exit.ensures.slot;
+        store = session.1;
+        known = known_served (g.S.Store.learned c.serve-status.new.store) run back refl;
+      },
       begun.given_is,
     )
