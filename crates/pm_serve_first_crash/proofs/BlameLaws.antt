@@ -1,12 +1,13 @@
 -- The laws: the first crash of a server's journal has a cause, and a server that ends after a crash has had one.
 use Rattle.std.{proofs.{Common.{◌≡◌, ◌⊎◌, inl, inr, ℕ, ◌+◌, ◌<◌, ◌≤◌, Bool, true, false, not, cond, ◌&&◌, ◌||◌, List, [], ◌∷◌, ◌++◌, Option, refl, sym, ap, subst, ◌∙◌, arith, append_assoc}, lemmas.{Bool.{both_ways, false≢true, true≢false}, List.Elements.recursion_from_All}}, specs.{Prelude.is_some, List.{AllByRecursion, fold}}}
-use Rattle.pm_serve_crew.{specs.{pm_facts.Lists.{each_first, each_last}, pm_exit.{declared.child.{Kind.Kind, Status.TheVariants.Code}, Ends.{is_exit_0, is_exit_1}}, pm_supervisor.{declared.{Limits.Limits, Reason.{Reason, TheVariants.{Crash, Stop}}}, Steps.is_normal}, pm_state.{declared.{action.Action.Action, event.PmEvent.PmEvent, machine.Machine.Machine}, Exits.is_shutdown, Laws.RestartsSafely, Promises.{has_act, is_ask_checkpoint, is_terminate}, Journal.{IsLegal, Replay, all_replayed, replay_begun, replayed}}, pm_child_life.Life.{Checkpoint, Quit, Told, was_told}, pm_supervisor_journal.Stands.any_moment, pm_board.{declared.views.{RosterStep.RosterStep, RosterView.RosterView}, Heard.IsKnownAtLast, Latches.{HeardRightly, NoticedBefore, doings_of, times_given, times_sent}}, pm_query.declared.book.BookEntry.{BookEntry, TheVariants.Broke}, pm_segment.{Moves.IsShown, Unread.is_break}, pm_board_acts.Seating.{Ended, Move, Notes, Seating, board_steps, empty, entries_from, journal_of, seating_by, seating_from, seating_of, steps_from}, pm_store_shared.declared.views.Noted.Noted, pm_worker.{declared.mail.MailTold.MailTold, Runs.told_in}, Left.Manner, pm_supervisor_chain.Chain.IsPidOf}, proofs.{pm_board.BoardLaws.sent-append, pm_board_acts.FoldingLaws.{seating-append, steps-append}, PidsLaws.pids_in}}
+use Rattle.pm_serve_crew.{specs.{pm_facts.Lists.{each_first, each_last}, pm_exit.{declared.child.{Kind.Kind, Status.TheVariants.Code}, Ends.{is_exit_0, is_exit_1}}, pm_supervisor.{declared.{Limits.Limits, Reason.{Reason, TheVariants.{Crash, Stop}}}, Steps.is_normal}, pm_state.{declared.{action.Action.Action, event.PmEvent.PmEvent, machine.Machine.Machine}, Exits.is_shutdown, Laws.RestartsSafely, Promises.{has_act, is_ask_checkpoint, is_terminate}, Journal.{IsLegal, Replay, all_replayed, replay_begun}}, pm_child_life.Life.{Checkpoint, Quit, Told, was_told}, pm_supervisor_journal.Stands.any_moment, pm_board.{declared.views.{RosterStep.RosterStep, RosterView.RosterView}, Heard.IsKnownAtLast, Latches.{HeardRightly, NoticedBefore, doings_of, times_given, times_sent}}, pm_query.declared.book.BookEntry.{BookEntry, TheVariants.Broke}, pm_segment.{Moves.IsShown, Unread.is_break}, pm_board_acts.Seating.{Ended, Move, Notes, Seating, board_steps, empty, entries_from, journal_of, seating_by, seating_from, seating_of, steps_from}, pm_store_shared.declared.views.Noted.Noted, pm_worker.{declared.mail.MailTold.MailTold, Runs.told_in}, Left.Manner, pm_supervisor_chain.Chain.IsPidOf}, proofs.{pm_board.BoardLaws.sent-append, pm_board_acts.FoldingLaws.{seating-append, steps-append}, PidsLaws.pids_in}}
 use Rattle.pm_store_remains.{specs.{pm_disk.Cause.Rose, pm_server.Views.DiskView, Remains.Remains}, proofs.{pm_state.ReplayLaws.{acts_in, ends_at, legal_behind, legal_front}, pm_server.CalmLaws.{is_closing, shuts}}}
 use Rattle.pm_serve_crew.specs.pm_exit.declared.child.Class.TheVariants as class
 use Rattle.pm_serve_crew.specs.pm_exit.declared.child.Kind.TheVariants as kinds
 use Rattle.pm_serve_crew.specs.pm_state.declared.event.PmEvent.TheVariants as entry
 use Rattle.pm_serve_crew.specs.pm_board.declared.views.RosterStep.TheVariants as step
-use Rattle.pm_serve_first_crash.{specs.{Crashes.{HasNoCrash, IsFirstCrash, IsHarmless, IsUnasked, is_crash, stands_behind}, Causes.{HasCause, IsBlamed, IsUnbroken, IsUnprovoked}}, proofs.{CalmLaws.{IsCalm, SoFar, nothing_so_far, told_after}, JournalLaws.{StaysCalm, checkpointer_there, never_again, stays_calm}, RunsLaws.{Outcome, EndedFine, WasKilled, WasToldToQuit, MetNotice, GaveUp, DiskFailed, HadNoRedo, WasShort, WasSpent, FoundOther, IsFineAs, outcome}, GivenLaws.{checkpoint_given, kill_given, number_of, quit_given, terminate_given}, SendsLaws.{SitsNowhere, final_sends, may_send, not_noticed, nowhere_from, quiet, unreached, unsent}, FindLaws.{IsKnownRun, NotedAt, RunOf, gone, its_run, near, noted_at}}}
+use Rattle.pm_supervisor_crashes.{specs.Crashes.{HasNoCrash, IsFirstCrash, IsHarmless, IsUnasked, is_crash, stands_behind}, proofs.FirstLaws.{FirstFrom, first_or_none, no_crash_more}}
+use Rattle.pm_serve_first_crash.{specs.Causes.{HasCause, IsBlamed, IsUnbroken, IsUnprovoked}, proofs.{CalmLaws.{IsCalm, SoFar, nothing_so_far, told_after}, JournalLaws.{StaysCalm, checkpointer_there, never_again, stays_calm}, RunsLaws.{Outcome, EndedFine, WasKilled, WasToldToQuit, MetNotice, GaveUp, DiskFailed, HadNoRedo, WasShort, WasSpent, FoundOther, IsFineAs, outcome}, GivenLaws.{checkpoint_given, kill_given, number_of, quit_given, terminate_given}, SendsLaws.{SitsNowhere, final_sends, may_send, not_noticed, nowhere_from, quiet, unreached, unsent}, FindLaws.{IsKnownRun, NotedAt, RunOf, gone, its_run, near, noted_at}}}
 
 -- ---- which signals were sent before the first crash
 
@@ -91,30 +92,6 @@ gave_up end m at kind status asked = rw (kind, status, asked) refl
 either : (b : Bool) → (b ≡ true) ⊎ (b ≡ false)
 either true = inl refl
 either false = inr refl
-
--- the first crash among these entries, after what those before them leave
-record FirstFrom (r : Replay) (journal : List PmEvent) : Type 0 where
-  pub before : List PmEvent
-  pub entry : PmEvent
-  pub behind : List PmEvent
-  pub is : journal ≡ before ++ entry ∷ behind
-  pub none : HasNoCrash r before
-  pub crash : is_crash (all_replayed r before).machine entry ≡ true
-
-first_or_none : (r : Replay) (journal : List PmEvent) → FirstFrom r journal ⊎ HasNoCrash r journal
-first_or_none r [] = inr tt
-first_or_none r (e ∷ journal) = by (either (is_crash r.machine e)) (first_or_none (replayed r e) journal)
-  where
-    by : (is_crash r.machine e ≡ true) ⊎ (is_crash r.machine e ≡ false) → FirstFrom (replayed r e) journal ⊎ HasNoCrash (replayed r e) journal
-        → FirstFrom r (e ∷ journal) ⊎ HasNoCrash r (e ∷ journal)
-    by (inl crash) rest = inl (record { before = []; entry = e; behind = journal; is = refl; none = tt; crash = crash })
-    by (inr fine) (inr none) = inr (fine, none)
-    by (inr fine) (inl f) =
-        inl (record { before = e ∷ f.before; entry = f.entry; behind = f.behind; is = ap (λ (es : List PmEvent). e ∷ es) f.is; none = (fine, f.none); crash = f.crash })
-
-no_crash_more : (r : Replay) (front : List PmEvent) (e : PmEvent) → HasNoCrash r front → is_crash (all_replayed r front).machine e ≡ false → HasNoCrash r (front ++ e ∷ [])
-no_crash_more r [] e none fine = (fine, tt)
-no_crash_more r (x ∷ front) e none fine = (none.0, no_crash_more (replayed r x) front e none.1 fine)
 
 -- the end of a child is harmless
 harmful_no_crash : (e : PmEvent) → (IsHarmless e → ⊥) → (m : Machine) → is_crash m e ≡ false

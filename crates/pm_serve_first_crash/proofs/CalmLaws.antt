@@ -8,7 +8,7 @@ use Rattle.pm_serve_crew.specs.pm_supervisor.declared.Ending.TheVariants as endi
 use Rattle.pm_serve_crew.specs.pm_state.declared.action.Action.TheVariants as act
 use Rattle.pm_serve_crew.specs.pm_state.declared.event.PmEvent.TheVariants as entry
 use Rattle.pm_store_remains.proofs.pm_server.CalmLaws as machine
-use Rattle.pm_serve_first_crash.specs.Crashes.{IsHarmless, IsUnasked, is_crash}
+use Rattle.pm_supervisor_crashes.specs.Crashes.{IsHarmless, IsUnasked, is_crash}
 
 -- ---- what holds
 

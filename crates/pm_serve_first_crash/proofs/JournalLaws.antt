@@ -6,7 +6,8 @@ use Rattle.pm_serve_crew.specs.pm_supervisor.Steps as supervisor
 use Rattle.pm_serve_crew.specs.pm_state.declared.event.PmEvent.TheVariants as entry
 use Rattle.pm_store_remains.proofs.pm_state.ReplayLaws.{AreCounted, Behind, Ends, Keeps, acts_behind_redo, acts_in, acts_in_dues, are_counted, ends_at, first_on, follows_on, legal_behind, legal_front, rested, startup_there, there_counts, was_there}
 use Rattle.pm_store_remains.proofs.pm_server.CalmLaws as machine
-use Rattle.pm_serve_first_crash.{specs.Crashes.{HasNoCrash, IsHarmless, IsUnasked, is_crash}, proofs.CalmLaws.{IsCalm, SoFar, accepted_calm, act_calm, asked_calm, left_calm, no_kill, nothing_so_far, row_calm, settled_calm, told_after}}
+use Rattle.pm_supervisor_crashes.specs.Crashes.{HasNoCrash, IsHarmless, IsUnasked, is_crash}
+use Rattle.pm_serve_first_crash.proofs.CalmLaws.{IsCalm, SoFar, accepted_calm, act_calm, asked_calm, left_calm, no_kill, nothing_so_far, row_calm, settled_calm, told_after}
 
 -- ---- one entry
 

@@ -1,6 +1,8 @@
 pub mod WorkedProofs
 pub mod BlameLaws
 pub mod CalmLaws
+pub mod ChildrenLaws
+pub mod EndingLaws
 pub mod FindLaws
 pub mod GivenLaws
 pub mod JournalLaws

@@ -1,7 +1,7 @@
 -- What a run of a child came to: it ended as it should, or by one of these causes.
 use Rattle.std.{proofs.Common.{◌≡◌, ◌⊎◌, inl, inr, ℕ, Bool, true, false, ◌||◌, List, [], ◌∷◌, ◌++◌, Option, Some, None, Result, Ok, Err, refl, sym, ap, subst, ◌∙◌}, specs.Prelude.is_some}
 use Rattle.pm_store_remains.specs.pm_disk.Cause.{Rose}
-use Rattle.pm_serve_crew.specs.{pm_exit.{declared.child.{Kind.Kind, Status.{Status, TheVariants.{Code, Signal}}}, Ends.{is_exit_0, is_exit_1}}, pm_admit.declared.Cac.Cac, pm_supervisor.{declared.Reason.Reason, Children.is_session}, pm_child_life.{declared.life.GateNo.GateNo, Life.{Told, Kill, Quit, Terminate, Checkpoint, was_told}}, pm_query.{declared.{book.BookEntry.{BookEntry, TheVariants.{Attached, Broke}}, store.StoreNo.{StoreNo, TheVariants.{Stale, Disk, Broken, Full, Redo, NoMemory}}}, Calls.{User, NotesFault}}, pm_session_exchange.{declared.ending.{Cause.Cause as SessionCause, Stage.{Stage, TheVariants.{Outside, Entering, Greeted}}}, Ends.{LetsGo, status_by as session_status}, Sent.Turn}, pm_session.Session.{CausedBy, Ending, EndsAt, IsAttachedAt, IsText, TurnsAway}, pm_aux.{declared.{aux_done.AuxDone.AuxDone, cause.AuxiliaryEnd.{AuxiliaryEnd, TheVariants.{Redone, Flushed, Closed, LeftOut, Refused, TurnedAway, ToldToTerminate, ToldToQuit, Killed}}}, Ends.{fault_by, kept_by, status_by}, Runs.{EndsOutside, MayBeShort, NotesBehind, Runner, user_in}, Signals.IsToldTo, Work.{HasEntered, IsKeptOut}}, pm_board.Places.is_connection, pm_worker.{declared.mail.{LinkTold.LinkTold, MailTold.MailTold}, Mails.{IsFor, traffic_in}, Runs.{Does, IsAuxRun, IsRun, IsSessionRun, Run, close_run, told_in}}, pm_board_life.Lives.MetRightly, Left.Manner}
+use Rattle.pm_serve_crew.specs.{pm_exit.{declared.child.{Kind.Kind, Status.{Status, TheVariants.{Code, Signal}}}, Ends.{is_exit_0, is_exit_1}}, pm_admit.declared.Cac.Cac, pm_supervisor.{declared.Reason.Reason, Children.is_session}, pm_child_life.{declared.life.GateNo.GateNo, Life.{Told, Kill, Quit, Terminate, Checkpoint, was_told}}, pm_query.{declared.{book.BookEntry.{BookEntry, TheVariants.{Attached, Broke}}, store.StoreNo.{StoreNo, TheVariants.{Stale, Disk, Broken, Full, Redo, NoMemory}}}, Calls.{User, NotesFault}}, pm_session_exchange.{declared.ending.{Cause.Cause as SessionCause, Stage.{Stage, TheVariants.{Outside, Entering, Greeted}}}, Ends.{LetsGo, status_by as session_status}, Sent.Turn}, pm_session.Session.{CausedBy, Ending, EndsAt, IsAttachedAt, IsText, TurnsAway}, pm_aux.{declared.{aux_done.AuxDone.AuxDone, cause.AuxiliaryEnd.{AuxiliaryEnd, TheVariants.{Redone, Flushed, Closed, LeftOut, Refused, TurnedAway, ToldToTerminate, ToldToQuit, Killed}}}, Ends.{IsMetBehind, fault_by, kept_by, status_by}, Runs.{EndsOutside, MayBeShort, NotesBehind, Runner, user_in}, Signals.IsToldTo, Work.{HasEntered, IsKeptOut}}, pm_board.Places.is_connection, pm_worker.{declared.mail.{LinkTold.LinkTold, MailTold.MailTold}, Mails.{IsFor, traffic_in}, Runs.{Does, IsAuxRun, IsRun, IsSessionRun, Run, close_run, told_in}}, pm_board_life.Lives.MetRightly, Left.Manner}
 use Rattle.pm_serve_crew.specs.pm_exit.declared.child.Kind.TheVariants as kinds
 use Rattle.pm_serve_crew.specs.pm_child_life.declared.life.GateNo.TheVariants as gate_no
 use Rattle.pm_store_remains.specs.pm_record.declared.fault.RedoFault.TheVariants as redo
@@ -96,7 +96,12 @@ module _ (manner : Manner) (run : Run) where
   of_exit link decision is its why.Killed exit status caused at = WasKilled status caused
   of_exit link decision is its (why.ToldToQuit reason) exit status caused at = WasToldToQuit reason caused
   of_exit link decision is its why.Overtaken exit status caused at =
-      FoundOther (record { status = status; why = inr (record { link = link; decision = decision; session = is; exit = exit }) })
+      FoundOther (record {
+        status = status;
+        mine = is.generation;
+        other = is.overtaken exit;
+        why = inr (record { link = link; decision = decision; session = is; its = refl; exit = exit });
+      })
   of_exit link decision is its why.Panicked exit status caused at =
       DiskFailed (subst Breaks is.session.entries (of_panic decision _ is.key is.turns is.ending is.session.came_in is.session.whole is.session.noted (cause is.ending.exits) is.session.text))
     where
@@ -153,7 +158,17 @@ module _ (manner : Manner) (run : Run) where
     pub short : cause ≡ Refused NoMemory → MayBeShort kind (Some (told_in run))
     pub met : run.heard.met ≡ gate
     pub right : MetRightly run.child.offer run.heard.met
+    pub another : IsMetBehind run.met (fault_by cause)
     pub notes : NotesBehind kind who gate cause run.noted
+
+  found_other : (mine found : ℕ) → run.child.status ≡ Signal 6 → WasRefused (Stale mine found) run → IsMetBehind run.met (Some (Stale mine found)) → Comes
+  found_other mine found status back another =
+      FoundOther (record {
+        status = status;
+        mine = mine;
+        other = λ same. another.1 (same ∙ sym another.0);
+        why = inl (subst (λ (n : ℕ). WasRefused (Stale mine n) run) another.0 back);
+      })
 
   fine : (kind : Kind) → run.child.offer.kind ≡ kind → IsFineAs kind run.child.status run.child.was_active (told_in run) → Comes
   fine kind is its = EndedFine (subst (λ (k : Kind). IsFineAs k run.child.status run.child.was_active (told_in run)) (sym is) its)
@@ -191,7 +206,7 @@ module _ (manner : Manner) (run : Run) where
   of_startup (ToldToQuit reason) a = WasToldToQuit reason a.told_to
   of_startup Killed a = WasKilled a.status a.told_to
   of_startup (Refused NoMemory) a = HadNoRedo (record { kind = a.kind_is; status = a.status; why = inr a.back })
-  of_startup (Refused (Stale mine found)) a = FoundOther (record { status = a.status; why = inl (mine, found, a.back) })
+  of_startup (Refused (Stale mine found)) a = found_other mine found a.status a.back a.another
   of_startup (Refused (Redo redo.NoCluster)) a = HadNoRedo (record { kind = a.kind_is; status = a.status; why = inl (redo.NoCluster, (λ is. absurd cc), a.back) })
   of_startup (Refused (Redo (redo.BadFile file at))) a = HadNoRedo (record { kind = a.kind_is; status = a.status; why = inl (redo.BadFile file at, (λ is. absurd cc), a.back) })
   of_startup (Refused (Redo (redo.SameEpoch epoch))) a = HadNoRedo (record { kind = a.kind_is; status = a.status; why = inl (redo.SameEpoch epoch, (λ is. absurd cc), a.back) })
@@ -218,7 +233,7 @@ module _ (manner : Manner) (run : Run) where
   of_writer (ToldToQuit reason) a = WasToldToQuit reason a.told_to
   of_writer Killed a = WasKilled a.status a.told_to
   of_writer (Refused NoMemory) a = absurd (a.short refl)
-  of_writer (Refused (Stale mine found)) a = FoundOther (record { status = a.status; why = inl (mine, found, a.back) })
+  of_writer (Refused (Stale mine found)) a = found_other mine found a.status a.back a.another
   of_writer (Refused (Redo fault)) a =
       by_work kinds.Writer (Refused (Redo fault)) a (λ out. out) (refused_here (Redo fault)) (λ user kept. kept) (λ user entered. absurd entered.worked.does)
   of_writer (Refused Disk) a =
@@ -250,7 +265,7 @@ module _ (manner : Manner) (run : Run) where
   of_checkpointer (ToldToQuit reason) a = WasToldToQuit reason a.told_to
   of_checkpointer Killed a = WasKilled a.status a.told_to
   of_checkpointer (Refused NoMemory) a = WasShort a.kind_is a.status a.back (a.short refl)
-  of_checkpointer (Refused (Stale mine found)) a = FoundOther (record { status = a.status; why = inl (mine, found, a.back) })
+  of_checkpointer (Refused (Stale mine found)) a = found_other mine found a.status a.back a.another
   of_checkpointer (Refused (Redo fault)) a =
       by_work kinds.Checkpointer (Refused (Redo fault)) a (λ out. out) (refused_here (Redo fault)) (λ user kept. kept) (λ user entered. absurd entered.worked.does.closes)
   of_checkpointer (Refused Disk) a =
@@ -274,11 +289,12 @@ module _ (manner : Manner) (run : Run) where
     short = is.is.short;
     met = is.is.met;
     right = right;
+    another = subst (IsMetBehind run.met) (ap (λ (d : AuxDone). d.fault) is.is.done) is.another;
     notes = is.is.notes;
   }
 
   -- a child that closes its worker
-  of_close : run.child.offer.kind ≡ kinds.DeadEnd → run ≡ close_run run.slots run.child.offer → Comes
+  of_close : run.child.offer.kind ≡ kinds.DeadEnd → run ≡ close_run run.slots run.met run.child.offer → Comes
   of_close its is =
       fine kinds.DeadEnd its (ap (λ (r : Run). is_exit_0 r.child.status || is_exit_1 r.child.status) is, ap (λ (r : Run). r.child.was_active) is)
 

@@ -4,7 +4,7 @@ use Rattle.pm_serve_crew.{specs.{pm_facts.Lists.{each_both, each_first, each_sec
 use Rattle.pm_serve_crew.specs.pm_state.declared.event.PmEvent.TheVariants as entry
 use Rattle.pm_serve_crew.specs.pm_board.declared.views.RosterStep.TheVariants as step
 use Rattle.pm_serve_crew.specs.pm_board.declared.views.Signal.TheVariants as signal
-use Rattle.pm_serve_first_crash.specs.Crashes.{IsHarmless}
+use Rattle.pm_supervisor_crashes.specs.Crashes.{IsHarmless}
 
 -- ---- how often
 

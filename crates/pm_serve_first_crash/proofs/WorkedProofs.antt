@@ -5,7 +5,8 @@ use Rattle.pm_serve_crew.specs.pm_supervisor.declared.Ending.TheVariants as endi
 use Rattle.pm_serve_crew.specs.pm_supervisor.declared.Reason.TheVariants as reason
 use Rattle.pm_serve_crew.specs.pm_state.declared.action.Line.TheVariants as line
 use Rattle.pm_serve_crew.specs.pm_state.declared.event.PmEvent.TheVariants as entry
-use Rattle.pm_serve_first_crash.specs.{Crashes.{HasNoCrash, IsFirstCrash}, WorkedFirsts.{given_up_journal, left_journal}}
+use Rattle.pm_supervisor_crashes.specs.Crashes.{HasNoCrash, IsFirstCrash}
+use Rattle.pm_serve_first_crash.specs.WorkedFirsts.{given_up_journal, left_journal}
 
 pub clean : HasNoCrash (replay_begun limits) clean_journal
 unfolding settled row_of crash_rule startup_exited start_recovery restart_writer end_smart stop_backends backends_gone dead_ends_gone children_gone

@@ -2,10 +2,10 @@
 use Rattle.std.specs.{Prelude.{◌≡◌, ◌≢◌, ◌⊎◌, ◌<◌, ℕ, true, false, List, [], ◌∷◌, Some, None}, List.{AllByRecursion, Contains}}
 use Rattle.pm_serve_crew.specs.pm_exit.declared.child.Kind.TheVariants as kinds
 use Rattle.pm_serve_crew.specs.{pm_exit.declared.child.Status.TheVariants.{Code, Signal}, pm_admit.declared.Cac.Cac, pm_supervisor.declared.Limits.Limits, pm_state.{declared.{event.PmEvent.PmEvent, machine.Machine.Machine}, Exits.is_shutdown, Journal.IsLegal}, pm_supervisor_journal.Stands.any_moment, pm_board.declared.views.RosterView.RosterView, pm_query.declared.{book.BookEntry.BookEntry, store.StoreNo.{StoreNo, TheVariants.{Stale, Full, Redo, NoMemory}}}, pm_session_exchange.declared.ending.Cause.TheVariants.Overtaken, pm_segment.Unread.is_break, pm_board_acts.{Board.ended_of, Seating.{Move, ends, journal_of}, Standing.IsBoardOf}, pm_store_shared.declared.views.Noted.Noted, pm_worker.{declared.mail.{LinkTold.LinkTold, MailTold.MailTold}, Runs.{IsSessionRun, Run}}, Left.{AreLeft, Manner}, Pids.AreUsedOnce}
+use Rattle.pm_supervisor_crashes.specs.Crashes.{IsUnasked}
 use Rattle.pm_store_remains.specs.pm_record.declared.fault.RedoFault.{RedoFault}
 use Rattle.pm_store_remains.specs.pm_record.declared.fault.RedoFault.TheVariants as redo
 use Rattle.pm_serve_crew.specs.pm_worker.declared.mail.MailTold.TheVariants as mail
-use Rattle.pm_serve_first_crash.specs.Crashes.{IsUnasked}
 
 -- ---- by what a child crashes
 
@@ -25,17 +25,20 @@ pub record CannotClose (m : Machine) (run : Run) : Type 0 where
   pub status : run.child.status ≡ Code 1
   pub why : ((is_shutdown m.state ≡ true) × WasRefused NoMemory run) ⊎ ((need : ℕ) × WasRefused (Full need 0) run)
 
--- it was a session that exits as one whose store is in another generation
-pub record IsOvertaken (manner : Manner) (run : Run) : Type 0 where
+-- it was a session of this generation that exits as one whose store is in another
+pub record IsOvertaken (manner : Manner) (generation : ℕ) (run : Run) : Type 0 where
   pub link : LinkTold
   pub decision : Cac
   pub session : IsSessionRun None manner.seed manner.limit manner.gives link decision run
+  pub its : session.generation ≡ generation
   pub exit : session.ending.exit ≡ Overtaken
 
--- A child with signal 6: it found the store in another generation than its own.
+-- A child with signal 6: it met the store in another generation than its own.
 pub record FoundAnother (manner : Manner) (run : Run) : Type 0 where
   pub status : run.child.status ≡ Signal 6
-  pub why : ((mine : ℕ) × (found : ℕ) × WasRefused (Stale mine found) run) ⊎ IsOvertaken manner run
+  pub mine : ℕ
+  pub other : mine ≢ run.met
+  pub why : WasRefused (Stale mine run.met) run ⊎ IsOvertaken manner mine run
 
 -- these and no others
 abbrev pub IsBlamed : Manner → Machine → Run → Type 0

@@ -3,7 +3,7 @@ use Rattle.std.specs.Prelude.{false, true, List, [], ◌∷◌}
 use Rattle.pm_serve_crew.specs.{pm_exit.declared.child.{Kind.TheVariants.{Backend, Startup}, Status.TheVariants.{Code, Signal}}, pm_modes.declared.Mode.TheVariants.Smart, pm_state.{declared.event.PmEvent.PmEvent, Journal.replay_begun}, pm_supervisor_chain.{WorkedChains.{clean_journal, crash_journal, failed_journal}, WorkedSteps.limits}}
 use Rattle.pm_serve_crew.specs.pm_state.declared.action.Line.TheVariants as line
 use Rattle.pm_serve_crew.specs.pm_state.declared.event.PmEvent.TheVariants as entry
-use Rattle.pm_serve_first_crash.specs.Crashes.{HasNoCrash, IsFirstCrash}
+use Rattle.pm_supervisor_crashes.specs.Crashes.{HasNoCrash, IsFirstCrash}
 
 -- the startup child gives up, since a shutdown was asked for
 abbrev pub given_up_journal : List PmEvent

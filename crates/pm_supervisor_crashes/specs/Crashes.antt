@@ -1,13 +1,14 @@
 -- Crashes of children, as the machine meets them entry by entry, and the first of a journal.
 use Rattle.std.specs.Prelude.{◌≡◌, Bool, true, false, not, ◌&&◌, ◌||◌, List, [], ◌∷◌, ◌++◌, is_some}
-use Rattle.pm_serve_crew.specs.{pm_exit.Ends.{class_of, is_exit_1}, pm_modes.declared.Mode.TheVariants.Immediate, pm_supervisor.{declared.Limits.Limits, Children.is_startup_child, Steps.is_normal}, pm_state.{declared.{event.PmEvent.PmEvent, machine.Machine.Machine}, Exits.is_shutdown, Journal.{Replay, all_replayed, replay_begun, replayed}}}
-use Rattle.pm_serve_crew.specs.pm_supervisor.declared.Ending.TheVariants as endings
-use Rattle.pm_serve_crew.specs.pm_state.declared.event.PmEvent.TheVariants as entry
+use Rattle.pm_state.specs.{pm_exit.Ends.{class_of, is_exit_1}, pm_modes.declared.Mode.TheVariants.Immediate, pm_supervisor.{declared.Limits.Limits, Children.is_startup_child, Steps.is_normal}, declared.{event.PmEvent.PmEvent, machine.Machine.Machine}, Exits.is_shutdown, Journal.{Replay, all_replayed, replay_begun, replayed}}
+use Rattle.pm_state.specs.pm_supervisor.declared.Ending.TheVariants as endings
+use Rattle.pm_state.specs.declared.event.PmEvent.TheVariants as entry
 
 -- The end of a child that isn't a normal one by its class. A startup child that gives up with code 1 for a shutdown is none.
 abbrev pub is_crash : Machine → PmEvent → Bool
 is_crash m (entry.Exited pid kind status was_active at) =
-    not (is_normal (class_of kind (is_shutdown m.state) was_active status) || (is_startup_child kind && (is_exit_1 status && is_some m.shutdown)))
+    not (is_normal (class_of kind (is_shutdown m.state) was_active status)
+    || (is_startup_child kind && (is_exit_1 status && is_some m.shutdown)))
 is_crash m _ = false
 
 -- none is among these, each as it is met after those before it

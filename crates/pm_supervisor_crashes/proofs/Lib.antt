@@ -1,0 +1,9 @@
+pub mod ListLaws
+pub mod FirstLaws
+pub mod Starts
+pub mod Calm
+pub mod Last
+pub mod CalmJournals
+pub mod LastJournals
+pub mod EndLaws
+pub mod WorkedProofs
