@@ -8,7 +8,7 @@ use Rattle.pm_supervisor_journal.specs.pm_state.declared.event.PmEvent.TheVarian
 use Rattle.pm_board.specs.declared.views.RosterStep.TheVariants as step
 use Rattle.pm_board.specs.declared.views.Signal.TheVariants as signal
 use Rattle.pm_supervisor_journal.specs.declared.act.Act.TheVariants as act
-use Rattle.pm_board_acts.{specs.{declared.audience.Audience.{Audience, TheVariants.{Everyone, Stoppable, Checkpointer}}, Acts.{HasLostNone, StartOnly, StartsAfresh, gate_by, gate_shown, MayDo, MayPerform, NoneIs, Performs, slot_of, steps_for}, Board.{SeenAs, after_steps, begun_of, ended_of, seat_at, seats_of, sitting}, Calls.slot_for, Seating.{Seating, Move, Notes, Begun, Ended, begins, ends, begun_at, ended_at, board_steps, begun_by, ended_by, journal_of, seating_by, steps_by, is_meant, seated, seating_of, sends, sends_from, steps_of}, Standing.{AreOnRoll, View, IsRunning, IsSeated, Goes, SeatServes, view}}, proofs.{Afresh.{afresh_acted, own_kind}, Calling.sat_down, FoldingLaws.{journal-more, seating-more, steps-more, begun-more, ended-more}, Rolls.found_kind, Sends.{noted-steps, same-slots, same-generation, shows_same}}}
+use Rattle.pm_board_acts.{specs.{declared.audience.Audience.{Audience, TheVariants.{Everyone, Stoppable, Checkpointer}}, Acts.{HasLostNone, StartOnly, StartsAfresh, gate_by, gate_shown, MayDo, MayPerform, NoneIs, Performs, slot_of, steps_for}, Board.{SeenAs, after_steps, begun_of, ended_of, seat_at, seats_of, sitting}, Calls.slot_for, Seating.{Seating, Move, Notes, Begun, Ended, begins, ends, begun_at, ended_at, board_steps, begun_by, ended_by, journal_of, seating_by, steps_by, is_meant, seated, seating_of, sends, sends_from, steps_of}, Standing.{AreOnRoll, View, IsRunning, IsSeated, Goes, SeatServes, view}}, proofs.{Afresh.{afresh_acted, own_kind}, Calling.sat_down, FoldingLaws.{journal-more, seating-more, steps-more, begun-more, ended-more}, Rightly.right_none, Rolls.found_kind, Sends.{noted-steps, same-slots, same-generation, shows_same}}}
 
 -- ---- who is there
 
@@ -140,6 +140,7 @@ module _ {D : Type 0} where
           ended = λ j. ap (λ (xs : List (SlotView D)). map ended_of (get_or xs j (slot_view [] Unused)).past) slots
               ∙ (was.had.ended j ∙ (sym (append-nil (ended_at j moves))
               ∙ (ap (λ (es : List Ended). ended_at j moves ++ es) (sym (ended j)) ∙ sym (ended-more j moves move))));
+          right = right_none count moves move (λ j. begun j (seating_of count moves)) was.had.right;
         };
       }
 
@@ -191,6 +192,7 @@ module _ {D : Type 0} where
           ended = λ j. ap (λ (xs : List (SlotView D)). map ended_of (get_or xs j (slot_view [] Unused)).past) slots
               ∙ (was.had.ended j ∙ (sym (append-nil (ended_at j moves))
               ∙ (ap (λ (es : List Ended). ended_at j moves ++ es) (none (nat_eq k j)) ∙ sym (ended-more j moves (Notes (entry.Reset g) k)))));
+          right = right_none count moves (Notes (entry.Reset g) k) (λ j. sym (none (nat_eq k j))) was.had.right;
         };
       }
     where

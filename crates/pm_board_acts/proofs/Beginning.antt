@@ -73,6 +73,7 @@ module _ {D : Type 0} where
               had = record {
                 begun = λ k. ap (λ (x : SlotView D). map begun_of x.past ++ sitting 1 (seat_at k (replicate count None))) (slot k) ∙ ap (sitting 1) (seat k);
                 ended = λ k. ap (λ (x : SlotView D). map ended_of x.past) (slot k);
+                right = λ k. tt;
               };
             })));
         may = subst (λ (s : Standing). MayDo s.due (gate_of v.board) s.children) (sym is.standing) tt;

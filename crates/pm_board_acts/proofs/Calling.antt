@@ -3,7 +3,7 @@ use Rattle.std.{proofs.{Common.{◌≡◌, ℕ, zero, suc, ◌+◌, ◌<◌, ◌
 use Rattle.pm_board.specs.{pm_facts.Bools.by_test, pm_exit.declared.child.Kind.Kind, pm_supervisor.{declared.Limits.Limits, Steps.{Trace, kind_for}}, declared.{views.{Offer.Offer, RosterNotes.RosterNotes, RosterStep.{RosterStep, TheVariants.{Assign, Release}}, RosterView.RosterView, SlotView.SlotView, PastChild.PastChild}, roster.Released.Released}, Places.{is_connection, slot_at}, Models.HasAssigned, Gate.{Gate, gate_of}}
 use Rattle.pm_supervisor_journal.{specs.{pm_state.{declared.{event.PmEvent.PmEvent, action.Action.Action}, Journal.acts_of_call}, declared.{exit.ChildExit.ChildExit, roll.Enrolled.Enrolled}, Laws.{GoesOnOverItsJournal, KeepsALegalJournal}, Roll.{kind_in, without}, pm_outside.Added.Added, Standing.{IsAtRest, MayTake, Standing, accepting, exiting, made, next_pid, decision_on, all_noted, called, ends_redo, exit_call, exit_entry, later, noted}, Stands.{HasPast, IsSettled, Stands, behind}}, proofs.{ToldLaws.{stands_told, told_more}, NextsLaws.noted-due}}
 use Rattle.pm_supervisor_journal.specs.pm_state.declared.event.PmEvent.TheVariants as entry
-use Rattle.pm_board_acts.{specs.{Seating.{Seating, Move, Notes, Begun, Ended, child, with_seat, seated, steps_of, begins, ends, ended_by, steps_by, begun_at, ended_at, seating_of, board_steps, journal_of}, Acts.{MayDo, StartsAfresh, gate_by, gate_shown}, Board.{Shows, ended_of, begun_of, seat_at, sitting}, Sitting.{HasReaped, StillRuns}, Standing.{View, IsAt, IsRunning, IsEnding, Goes, IsSeated, AreOnRoll, SeatServes}, Calls.{accepts, exits, exit_of, notes_in, EndsBehind, IsCutOff}}, proofs.{Afresh.{SamePast, afresh_called, afresh_still, became_same}, Gating.calls_leave, FoldingLaws.{journal-more, journal-notes, seating-more, steps-more, begun-more, ended-more}, Rolls.{on_roll_more, on_roll_less, found_kind, stood_before}, Sitting.{shows_set, had_begun, had_ended}}}
+use Rattle.pm_board_acts.{specs.{Seating.{Seating, Move, Notes, Begun, Ended, child, with_seat, seated, steps_of, begins, ends, ended_by, steps_by, begun_at, ended_at, seating_of, board_steps, journal_of}, Acts.{MayDo, StartsAfresh, gate_by, gate_shown}, Board.{Shows, ended_of, begun_of, seat_at, sitting}, Sitting.{HasReaped, StillRuns}, Standing.{View, IsAt, IsRunning, IsEnding, Goes, IsSeated, AreOnRoll, SeatServes}, Calls.{accepts, exits, exit_of, notes_in, EndsBehind, IsCutOff}}, proofs.{Afresh.{SamePast, afresh_called, afresh_still, became_same}, Gating.calls_leave, FoldingLaws.{journal-more, journal-notes, seating-more, steps-more, begun-more, ended-more}, Rolls.{on_roll_more, on_roll_less, found_kind, stood_before}, Rightly.{right_none, seats_of_all}, Sitting.{shows_set, had_begun, had_ended}}}
 use Rattle.pm_board.specs.declared.views.Letter as Letter
 
 pub past_of : {D : Type 0} (v : View D) → IsRunning v → HasPast v.work
@@ -85,7 +85,8 @@ module _ {D : Type 0} where
         last_pid = ap (λ (n : RosterNotes). n.last_pid) became.notes_are ∙ (o_pid ∙ sym last);
         connection = subst (λ (n : RosterNotes). n.last_connection ≤ n.last_pid) (sym became.notes_are)
             (last_of o.kind o.pid d.notes.last_connection (let low : d.notes.last_connection ≤ d.notes.last_pid = was.connection in let same : d.notes.last_pid ≡ s.last_pid = was.last_pid in let p : o.pid ≡ pid = o_pid in omega arith));
-        had = had_begun count moves d e was.seating k (child pid kind) noted _ _ was.had was.is_that near' free' became refl (begun was.seating.generation) ended;
+        had = had_begun count moves d e was.seating k (child pid kind) noted _ _ was.had was.is_that near' free' became refl begun ended
+            (subst (λ (n : ℕ). SeatServes n k kind) (ap (λ (xs : List (Option Enrolled)). length xs) was.at_hand ∙ (ap (λ (x : Seating). length x.seats) was.is_that ∙ seats_of_all count moves)) serves);
       }
 
   -- a child was released, by this entry
@@ -189,6 +190,7 @@ module _ {D : Type 0} where
         had = record {
           begun = λ j. ap (λ (ps : List (PastChild D)). map begun_of ps ++ sitting was.seating.generation (seat_at j was.seating.seats)) (past j) ∙ was.had.begun j;
           ended = λ j. ap (map ended_of) (past j) ∙ was.had.ended j;
+          right = was.had.right;
         };
       }
 
@@ -225,6 +227,7 @@ module _ {D : Type 0} where
         had = record {
           begun = λ j. was.had.begun j ∙ (sym (append-nil (begun_at count j moves)) ∙ (ap (λ (bs : List Begun). begun_at count j moves ++ bs) (none (nat_eq k j)) ∙ sym (begun-more count j moves (Notes e k))));
           ended = λ j. was.had.ended j ∙ (sym (append-nil (ended_at j moves)) ∙ (ap (λ (es : List Ended). ended_at j moves ++ es) (none (nat_eq k j)) ∙ sym (ended-more j moves (Notes e k))));
+          right = right_none count moves (Notes e k) (λ j. sym (none (nat_eq k j))) was.had.right;
         };
       }
     where
@@ -319,6 +322,7 @@ module _ {D : Type 0} where
             shows = now.shows;
             begun = λ j. now.had.begun j ∙ (begun-more count j moves (Notes noted_end k) ∙ (ap (λ (bs : List Begun). begun_at count j moves ++ bs) (none_begun (seating_of count moves).generation (nat_eq k j)) ∙ append-nil (begun_at count j moves)));
             ended = λ j. (ended_by j (Notes noted_end k), now.had.ended j ∙ ended-more j moves (Notes noted_end k));
+            right = at.seated.had.right;
           })
 
   pub looked_then : (count : ℕ) (moves : List Move) (v w : View D) (k : ℕ) (c : Enrolled) → IsSeated count moves v.board v.seats v.work.standing

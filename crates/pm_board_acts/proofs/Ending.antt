@@ -53,6 +53,7 @@ module _ {D : Type 0} where
             b.0 ++ map ended_of p.0,
             p.1 ∙ (ap (λ (xs : List Ended). xs ++ map ended_of p.0) b.1 ∙ append_assoc (ended_at k moves) b.0 (map ended_of p.0)),
           );
+      right = was.right;
     };
     last_pid = last;
   }
@@ -158,6 +159,7 @@ module _ {D : Type 0} where
             shows = is.seated.shows;
             begun = is.seated.had.begun;
             ended = λ k. ([], is.seated.had.ended k ∙ sym (append-nil (ended_at k moves)));
+            right = is.seated.had.right;
           }),
       pids limits count moves work d is,
     );
@@ -190,6 +192,7 @@ module _ {D : Type 0} where
       final = was.final;
       begun = λ k. ([], tt, alone count moves d was nobody k ∙ sym (append-nil (begun_at count k moves)));
       ended = was.ended;
+      right = was.right;
     };
     exact = alone;
     unused = λ count moves d was nobody k. unused_of d was.shows nobody k;

@@ -1,6 +1,7 @@
 pub mod Seen
 pub mod Sends
 pub mod Rolls
+pub mod Rightly
 pub mod Sitting
 pub mod MayBeDone
 pub mod Turning

@@ -3,7 +3,7 @@ use Rattle.std.{proofs.{Common.{◌≡◌, ◌≢◌, ℕ, ◌<◌, ◌≤◌, L
 use Rattle.pm_board.specs.{pm_facts.{Lists.set_set, Bools.by_test}, pm_exit.declared.child.{Kind.Kind, Status.Status}, declared.{views.{PastChild.PastChild, RosterNotes.RosterNotes, RosterView.RosterView, SlotView.SlotView}, roster.Released.Released}, Places.{slot_at, EndsWell}, Told.{with_slot, exited_slot, released_slot, past_child, noted_look, noted_release}, Models.SlotBecame}
 use Rattle.pm_supervisor_journal.specs.{declared.roll.Enrolled.Enrolled, pm_state.declared.event.PmEvent.PmEvent}
 use Rattle.pm_board.specs.declared.views.Letter as Letter
-use Rattle.pm_board_acts.{specs.{Seating.{Seating, Move, Notes, Begun, Ended, with_seat, begins, ends, begun_at, ended_at, begun_by, ended_by, seating_of}, Board.{SeenAs, Shows, begun_of, ended_of, seat_at, sitting}, Sitting.{Sits, HasReaped}, Standing.HasHad}, proofs.FoldingLaws.{begun-more, ended-more}}
+use Rattle.pm_board_acts.{specs.{Seating.{Seating, Move, Notes, Begun, Ended, with_seat, begins, ends, begun_at, ended_at, begun_by, ended_by, seating_of}, Board.{SeenAs, Shows, begun_of, ended_of, seat_at, sitting}, Sitting.{Sits, HasReaped}, Standing.{HasHad, SeatServes}}, proofs.{FoldingLaws.{begun-more, ended-more}, Rightly.{right_begun, right_none}}}
 
 module _ {D : Type 0} where
   -- a slot that became one thing and then another
@@ -40,16 +40,16 @@ module _ {D : Type 0} where
   pub had_begun : (count : ℕ) (moves : List Move) (d e : RosterView D) (s : Seating) (k : ℕ) (c : Enrolled) (entry : PmEvent) (x : SlotView D) (notes : RosterNotes)
       → HasHad count moves d s → s ≡ seating_of count moves → k < length s.seats → seat_at k s.seats ≡ None
       → SlotBecame k x notes d e → x.past ≡ (slot_at d k).past
-      → begins s.generation entry ≡ record { pid = c.pid; kind = c.kind; generation = s.generation } ∷ [] → ends entry ≡ []
+      → ((g : ℕ) → begins g entry ≡ record { pid = c.pid; kind = c.kind; generation = g } ∷ []) → ends entry ≡ [] → SeatServes count k c.kind
       → HasHad count (moves ++ Notes entry k ∷ []) e (with_seat k (Some c) s)
-  had_begun count moves d e s k c entry x notes had that near free became past begun ended = record {
+  had_begun count moves d e s k c entry x notes had that near free became past begun ended serves = record {
     begun = λ j. by_test (nat_eq j k)
         (λ is. subst (λ (i : ℕ). map begun_of (slot_at e i).past ++ sitting s.generation (seat_at i (set s.seats k (Some c))) ≡ begun_at count i (moves ++ Notes entry k ∷ [])) (sym (eqb-true j k is))
         (ap (λ (ps : List (PastChild D)). map begun_of ps ++ sitting s.generation (seat_at k (set s.seats k (Some c)))) (ap (λ (y : SlotView D). y.past) became.here ∙ past)
         ∙ (ap (λ (y : Option Enrolled). map begun_of (slot_at d k).past ++ sitting s.generation y) (get_or-set_same s.seats k (Some c) None near)
         ∙ (ap (λ (bs : List Begun). bs ++ record { pid = c.pid; kind = c.kind; generation = s.generation } ∷ [])
         (sym (append-nil (map begun_of (slot_at d k).past)) ∙ (sym (ap (λ (y : Option Enrolled). map begun_of (slot_at d k).past ++ sitting s.generation y) free) ∙ had.begun k))
-        ∙ (ap (λ (bs : List Begun). begun_at count k moves ++ bs) (sym begun ∙ (sym (ap (λ (b : Bool). if b then begins s.generation entry else []) (eq-eqb k k refl)) ∙ ap (λ (t : Seating). begun_by k t (Notes entry k)) that))
+        ∙ (ap (λ (bs : List Begun). begun_at count k moves ++ bs) (sym (begun s.generation) ∙ (sym (ap (λ (b : Bool). if b then begins s.generation entry else []) (eq-eqb k k refl)) ∙ ap (λ (t : Seating). begun_by k t (Notes entry k)) that))
         ∙ sym (begun-more count k moves (Notes entry k)))))))
         (λ isnt. ap (λ (y : SlotView D). map begun_of y.past ++ sitting s.generation (seat_at j (set s.seats k (Some c)))) (became.others j (eqb-false j k isnt))
         ∙ (ap (λ (y : Option Enrolled). map begun_of (slot_at d j).past ++ sitting s.generation y) (get_or-set_other s.seats k j (Some c) None (eqb-false j k isnt))
@@ -58,6 +58,7 @@ module _ {D : Type 0} where
         ∙ (ap (λ (bs : List Begun). begun_at count j moves ++ bs) (sym (ap (λ (b : Bool). if b then begins (seating_of count moves).generation entry else []) (ne_eqb k j (λ same. eqb-false j k isnt (sym same)))))
         ∙ sym (begun-more count j moves (Notes entry k)))))));
     ended = λ j. past_same j ∙ (had.ended j ∙ (sym (append-nil (ended_at j moves)) ∙ (ap (λ (es : List Ended). ended_at j moves ++ es) (sym (no_end j)) ∙ sym (ended-more j moves (Notes entry k)))));
+    right = right_begun count moves entry k c.pid c.kind begun serves had.right;
   }
     where
       past_same : (j : ℕ) → map ended_of (slot_at e j).past ≡ map ended_of (slot_at d j).past
@@ -103,6 +104,7 @@ module _ {D : Type 0} where
         ∙ (had.ended j ∙ (sym (append-nil (ended_at j moves))
         ∙ (ap (λ (es : List Ended). ended_at j moves ++ es) (sym (ap (λ (b : Bool). if b then ends entry else []) (ne_eqb k j (λ same. eqb-false j k isnt (sym same)))))
         ∙ sym (ended-more j moves (Notes entry k))))));
+    right = right_none count moves (Notes entry k) no_begin had.right;
   }
     where
       no_begin : (j : ℕ) → begun_by j (seating_of count moves) (Notes entry k) ≡ []

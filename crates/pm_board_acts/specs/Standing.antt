@@ -57,11 +57,16 @@ IsFinal seats _ = ⊥
 abbrev pub AreClosing : List Begun → Type 0
 AreClosing others = AllByRecursion (λ b. b.kind ≡ kind.DeadEnd) others
 
+-- each child that began in a slot is one that may sit there
+abbrev pub BeginRightly : ℕ → List Move → Type 0
+BeginRightly count moves = (k : ℕ) → AllByRecursion (λ b. SeatServes count k b.kind) (begun_at count k moves)
+
 module _ {D : Type 0} where
   -- the children of each slot are those that the moves tell of, as they began and as they ended
   pub record HasHad (count : ℕ) (moves : List Move) (d : RosterView D) (s : Seating) : Type 0 where
     pub begun : (k : ℕ) → map begun_of (slot_at d k).past ++ sitting s.generation (seat_at k s.seats) ≡ begun_at count k moves
     pub ended : (k : ℕ) → map ended_of (slot_at d k).past ≡ ended_at k moves
+    pub right : BeginRightly count moves
 
   -- the steps of the roster are those of these moves, and it sees who sits where after them
   pub record IsSeated (count : ℕ) (moves : List Move) (d : RosterView D) (seats : List (Option Enrolled)) (work : Standing) : Type 0 where
@@ -125,6 +130,7 @@ module _ {D : Type 0} where
     pub shows : Shows d s
     pub begun : (k : ℕ) → map begun_of (slot_at d k).past ++ sitting s.generation (seat_at k s.seats) ≡ begun_at count k moves
     pub ended : (k : ℕ) → (others : List Ended) × (map ended_of (slot_at d k).past ≡ ended_at k moves ++ others)
+    pub right : BeginRightly count moves
 
   -- The same of the children that were released, of which the last ones closed workers: at the end nobody sits anywhere.
   pub record IsBoardOf (count : ℕ) (moves : List Move) (d : RosterView D) : Type 0 where
@@ -133,3 +139,4 @@ module _ {D : Type 0} where
     pub final : AllByRecursion (IsFinal (seating_of count moves).seats) last
     pub begun : (k : ℕ) → (others : List Begun) × AreClosing others × (map begun_of (slot_at d k).past ≡ begun_at count k moves ++ others)
     pub ended : (k : ℕ) → (others : List Ended) × (map ended_of (slot_at d k).past ≡ ended_at k moves ++ others)
+    pub right : BeginRightly count moves

@@ -85,7 +85,7 @@ caused_more (Abnormal AfterCrash) moves d e more cause = record {
 caused_more (Abnormal RestartOff) moves d e more cause = tt
 caused_more (Abnormal GenerationsSpent) moves d e more cause = tt
 caused_more Clean moves d e more cause = tt
-caused_more NoThread moves d e more cause = tt
+caused_more NoThread moves d e more cause = absurd cause
 caused_more NoMemory moves d e more cause = tt
 
 -- what was asked of a server stays so while its children are cleared

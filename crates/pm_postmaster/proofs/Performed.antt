@@ -99,11 +99,11 @@ start_caused (Some came) moves d out = by (is_killed came.status) refl came.faul
         → IsCausedBehind (if killed then Abnormal (StartupFailed Killed) else refused_by fault) moves d
     by true kill fault faulted = record { came = came; out = out; reason_is = killed_by came.status kill }
     by false kill None faulted = tt
-    by false kill (Some (nos.Redo fault)) faulted = short (is_short fault)
+    by false kill (Some (nos.Redo fault)) faulted = short (is_short fault) refl
       where
-        short : (b : Bool) → IsCausedBehind (if b then NoMemory else Abnormal (StartupFailed (Redo fault))) moves d
-        short true = tt
-        short false = record { came = came; out = out; reason_is = faulted }
+        short : (b : Bool) → is_short fault ≡ b → IsCausedBehind (if b then NoMemory else Abnormal (StartupFailed (Redo fault))) moves d
+        short true is = tt
+        short false is = record { came = came; out = out; reason_is = (faulted, λ same. (let never : true ≡ false = ap is_short (sym same) ∙ is in absurd cc)) }
     by false kill (Some (nos.Stale mine found)) faulted = tt
     by false kill (Some nos.Disk) faulted = tt
     by false kill (Some (nos.Broken since)) faulted = tt

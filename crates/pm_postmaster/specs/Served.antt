@@ -17,6 +17,7 @@ manner_by conf before = record {
   seed = before.outside.seed;
   limit = conf.session.authentication_ms;
   gives = before.outside.gives;
+  files = before.outside.disk.files;
 }
 
 -- how a server ends for which no pool was made

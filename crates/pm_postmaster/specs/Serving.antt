@@ -3,7 +3,7 @@ use Rattle.std.specs.{Prelude.{◌≡◌, ◌≢◌, ◌⊎◌, ℕ, ◌≤◌, 
 use Rattle.atomic_table.specs.Seated.{TableId}
 use Rattle.pm_board_acts.specs.{pm_board.{declared.views.{RosterView.RosterView, PastChild.PastChild}, Places.slot_at}, pm_supervisor_chain.Chain.{gone_from, lost_from, opened_of, resets_of, lost_since, gone_since}, Chained.pids_accepted, Final.IsEndingAt, Board.ended_of, Seating.{Move, ended_at, journal_of}, Standing.{IsAt, view}, pm_worker.declared.mail.MailTold.MailTold}
 use Rattle.pm_serve_pool.specs.{pm_serve_crew.{Redos.{redo_ends_at, redo_told, RedosAreThose}, Renewals.{EachBeginsSo, RenewsAsTold, WereInside}}, pm_store_shared.{Log.entries_of, Told.SharedModel, declared.views.Noted.Noted}}
-use Rattle.pm_server.specs.{pm_supervisor_journal.{Moments.AreGiven, Standing.Standing, Stands.{any_moment, highest_pid}}, pm_server_lines.Log.{HasSaid, LogView}, declared.end.{ServerEnd.{ServerEnd, TheVariants.{Abnormal, NoMemory}}, StartWhy.StartWhy, Why.TheVariants.{AfterCrash, StartupFailed}}, pm_exit.declared.child.{Kind.Kind, Status.TheVariants.Signal}, pm_state.{declared.{action.Action.Action, event.PmEvent.PmEvent}, Journal.{IsLegal, all_replayed, replay_begun}}, Ends.IsEndBy, pm_supervisor.{declared.Limits.Limits, Children.{is_checkpointer, is_startup_child}}, pm_query.declared.store.StoreNo.TheVariants.{Redo as RedoNo, NoMemory as MemoryNo}}
+use Rattle.pm_server.specs.{pm_supervisor_journal.{Moments.AreGiven, Standing.Standing, Stands.{any_moment, highest_pid}}, pm_server_lines.Log.{HasSaid, LogView}, declared.end.{ServerEnd.{ServerEnd, TheVariants.{Abnormal, NoMemory, NoThread}}, StartWhy.StartWhy, Why.TheVariants.{AfterCrash, StartupFailed}}, pm_exit.declared.child.{Kind.Kind, Status.TheVariants.Signal}, pm_state.{declared.{action.Action.Action, event.PmEvent.PmEvent}, Journal.{IsLegal, all_replayed, replay_begun}}, Ends.IsEndBy, pm_supervisor.{declared.Limits.Limits, Children.{is_checkpointer, is_startup_child}}, pm_query.declared.store.StoreNo.TheVariants.{Redo as RedoNo, NoMemory as MemoryNo}, pm_record.declared.fault.RedoFault.TheVariants.{NoMemory as ShortOfMemory}}
 use Rattle.pm_server.specs.declared.end.StartWhy.TheVariants as why
 use Rattle.pm_postmaster.specs.{declared.came.{Came.Came, LastCame.LastCame}, Looking.came_of, Links.{AreServed, HasLinks, accepted_in}, Requests.{AsksSoFar, IsAsked, ended_in}, View.View}
 use Rattle.pm_server.specs.pm_state.declared.action.Action.TheVariants as act
@@ -70,10 +70,10 @@ last_pid_in limits journal = (all_replayed (replay_begun limits) journal).shown.
 abbrev pub IsEndBehind : Limits → ServerEnd → List PmEvent → Type 0
 IsEndBehind limits end journal = IsEndBy (λ how. EndsWith (entry.Ended how) journal) limits end journal
 
--- a startup child came out so that a server ends for this reason
+-- a startup child came out so that a server ends for this reason, which isn't want of memory
 abbrev pub IsReason : StartWhy → Came → Type 0
 IsReason why.Killed came = came.status ≡ Signal 9
-IsReason (why.Redo fault) came = came.fault ≡ Some (RedoNo fault)
+IsReason (why.Redo fault) came = (came.fault ≡ Some (RedoNo fault)) × (fault ≢ ShortOfMemory)
 
 -- So the last child of one kind came out, if there was one, of the children of the slot k whose ends the moves tell of. The others
 -- were released after the last entry.
@@ -97,10 +97,11 @@ pub record CrashedOtherwise (moves : List Move) (past : List (PastChild MailTold
   pub other : IfSome came (λ last. last.fault ≢ Some MemoryNo)
 
 -- Where no startup child brought the data up to date, the last one came out for the reason that is told. A crash is told only where
--- memory wasn't short for the last checkpoint.
+-- memory wasn't short for the last checkpoint. All threads are there.
 abbrev pub IsCausedBehind : ServerEnd → List Move → RosterView MailTold → Type 0
 IsCausedBehind (Abnormal (StartupFailed reason)) moves d = FailsFor reason moves (slot_at d 0).past
 IsCausedBehind (Abnormal AfterCrash) moves d = CrashedOtherwise moves (slot_at d 1).past
+IsCausedBehind NoThread moves d = ⊥
 IsCausedBehind end moves d = Unit {0}
 
 module _ {D C : Type 0} (gives : C → ℕ → Type 0) where

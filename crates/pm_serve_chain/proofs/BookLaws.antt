@@ -2,30 +2,6 @@
 use Rattle.std.{proofs.Common.{◌≡◌, ◌≢◌, inl, inr, ℕ, ◌+◌, ◌<◌, ◌≤◌, Bool, true, false, List, [], ◌∷◌, ◌++◌, length, refl, sym, ap, subst, ◌∙◌, arith}, specs.{Prelude.{cond, nat_eq, ◌&&◌, ◌==◌}, List.AllByRecursion}}
 use Rattle.pm_serve_crew.{specs.{pm_session_answers.Own.{entries_by, is_by}, pm_supervisor_chain.Chain.{AttachOnce, InGeneration, IsAmong, attached_of, gone_from, kept_of, opened_of, redos_of}, pm_query.declared.book.BookEntry.{BookEntry, TheVariants.{Opened, Attached, Redone, Gone}}, pm_store_shared.{declared.views.Noted.Noted, Log.{AllBelow, Line, book_of, entries_of, is_own, noted as noted_at, noted_behind, placed, placed_rest}}}, proofs.OpenedLaws.opened_rest}
 
--- ---- all entries
-
-module _ (Q : BookEntry → Type 0) (of_rest : (entry : BookEntry) → is_own entry ≡ false → Q entry) where
-  -- what holds of each token's entries, and of what no token notes, holds of the book's
-  pub all_entries : (count n : ℕ) (log : List Line) → AllBelow count log → ((k : ℕ) → k < count → AllByRecursion Q (entries_of (placed k n log))) → AllByRecursion Q (book_of log)
-  all_entries count n [] below each = tt
-  all_entries count n (l ∷ log) below each = (here (is_own l.entry) refl, all_entries count (n + 1) log below.1 (λ k less. behind k (is_own l.entry && (l.by == k)) refl (each k less)))
-    where
-      takes : is_own l.entry ≡ true → placed l.by n (l ∷ log) ≡ noted_at n l.entry ∷ placed l.by (n + 1) log
-      takes own =
-          let its : (l.by == l.by) ≡ true = grind arith in
-          ap (λ (b : Bool). cond b (noted_at n l.entry ∷ placed l.by (n + 1) log) (placed l.by (n + 1) log)) (ap (λ (b : Bool). b && (l.by == l.by)) own ∙ its)
-
-      here : (own : Bool) → is_own l.entry ≡ own → Q l.entry
-      here true own = (subst (AllByRecursion Q) (ap entries_of (takes own)) (each l.by (below.0 own))).0
-      here false own = of_rest l.entry own
-
-      behind : (k : ℕ) (test : Bool) → (is_own l.entry && (l.by == k)) ≡ test → AllByRecursion Q (entries_of (placed k n (l ∷ log)))
-          → AllByRecursion Q (entries_of (placed k (n + 1) log))
-      behind k true is all =
-          (subst (λ (b : Bool). AllByRecursion Q (entries_of (cond b (noted_at n l.entry ∷ placed k (n + 1) log) (placed k (n + 1) log)))) is all).1
-      behind k false is all =
-          subst (λ (b : Bool). AllByRecursion Q (entries_of (cond b (noted_at n l.entry ∷ placed k (n + 1) log) (placed k (n + 1) log)))) is all
-
 -- ---- the entries of the shared side
 
 gone_line : (before : List BookEntry) (entry : BookEntry) (log : List Line)

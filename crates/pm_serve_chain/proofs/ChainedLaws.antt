@@ -1,7 +1,7 @@
 -- Journal and book of a server of many connections are chained.
 use Rattle.std.{proofs.{Common.{◌≡◌, ◌⊎◌, inl, inr, ℕ, ◌<◌, ◌≤◌, Bool, true, false, List, [], ◌∷◌, ◌++◌, refl, sym, ap, subst, ◌∙◌, arith, nat_lt}, lemmas.{Grind.flat_map-append, List.get_or_past}}, specs.{Prelude.{map, ◌==◌}, List.{AllByRecursion, flat_map}}}
-use Rattle.pm_serve_crew.{specs.{pm_facts.Lists.{each_both, each_first, each_second}, pm_board.{declared.views.{PastChild.PastChild, RosterView.RosterView, Sight.TheVariants.Unused, SlotView.SlotView}, Places.{slot_at, slot_view}}, pm_supervisor_chain.Chain.{AgreeOnGenerations, AreDistinct, InGeneration, IsAmong, IsPidOf, exits_of, gone_from, attached_of, kept_of, lost_from, redo_ends_of, redos_of, resets_of, users_from}, Left.{AreLeft, IsWorked, Manner}, Pids.{AreUsedOnce, pids_at}, Redos.{AreRedosOf, RedosAreThose, redo_told}, Uses.UsesStore, Renewals.{EachBeginsSo, RenewsAsTold}, pm_query.declared.book.BookEntry.{BookEntry, TheVariants.{Attached, Redone}}, pm_board_acts.{Board.{begun_of, ended_of}, Chained.{IsChainedLoosely, LostAreGone}, Seating.{Begun, Ended, Move, begun_at, empty, ended_at, journal_of}, Standing.{AreClosing, IsBoardOf}}, pm_store_shared.{declared.views.Noted.Noted, Log.{entries_of, is_own}}, pm_state.declared.event.PmEvent.PmEvent, pm_supervisor.Children.is_dead_end, pm_worker.{declared.mail.MailTold.MailTold, Runs.noted_by}}, proofs.{pm_supervisor_chain.FoldsLaws.{pid_left, pid_right}, EntriesLaws.{entries_at, entries_of_runs, its_list, runs_use, worked}}}
-use Rattle.pm_serve_chain.proofs.{BookLaws.{AttachedOnce, OfRedo, OfUser, all_entries, all_redos, all_users, attach_once, gone_own, opened_own}, JournalLaws.{ExitOnce, MayUse, all_ends, each_so, ends_among, exit_in, exits_once, lost_once, may_use, pids_of}, RunsLaws.{HasEnd, IsIn, IsToldIn, IsUser, all_in, all_run_ends, all_run_redos, all_run_users}, OnceLaws.{apart_joined, split}}
+use Rattle.pm_serve_crew.{specs.{pm_facts.Lists.{each_both, each_first, each_second}, pm_board.{declared.views.{PastChild.PastChild, RosterView.RosterView, Sight.TheVariants.Unused, SlotView.SlotView}, Places.{slot_at, slot_view}}, pm_supervisor_chain.Chain.{AgreeOnGenerations, AreDistinct, InGeneration, IsAmong, IsPidOf, exits_of, gone_from, attached_of, kept_of, lost_from, redo_ends_of, redos_of, resets_of, users_from}, Left.{AreLeft, IsWorked, Manner}, Pids.{AreUsedOnce, pids_at}, Redos.{AreRedosOf, RedosAreThose, redo_told}, Uses.UsesStore, Renewals.{EachBeginsSo, RenewsAsTold}, pm_query.declared.book.BookEntry.{BookEntry, TheVariants.{Attached, Redone}}, pm_board_acts.{Board.{begun_of, ended_of}, Chained.{IsChainedLoosely, LostAreGone}, Seating.{Begun, Ended, Move, begun_at, empty, ended_at, journal_of}, Standing.{AreClosing, IsBoardOf}}, pm_store_shared.{declared.views.Noted.Noted, Log.{entries_of, is_own}}, pm_state.declared.event.PmEvent.PmEvent, pm_supervisor.Children.is_dead_end, pm_worker.{declared.mail.MailTold.MailTold, Runs.noted_by}}, proofs.{pm_supervisor_chain.FoldsLaws.{pid_left, pid_right}, BookLaws.in_book, EntriesLaws.{entries_of_runs, its_list, runs_use, worked}}}
+use Rattle.pm_serve_chain.proofs.{BookLaws.{AttachedOnce, OfRedo, OfUser, all_redos, all_users, attach_once, gone_own, opened_own}, JournalLaws.{ExitOnce, MayUse, all_ends, each_so, ends_among, exit_in, exits_once, lost_once, may_use, pids_of}, RunsLaws.{HasEnd, IsIn, IsToldIn, IsUser, all_in, all_run_ends, all_run_redos, all_run_users}, OnceLaws.{apart_joined, split}}
 
 -- ---- whom the supervisor gave up
 
@@ -76,15 +76,8 @@ module _ (manner : Manner) (count : ℕ) (moves : List Move) (d : RosterView Mai
   runs_in : (k : ℕ) (less : k < count) → AllByRecursion (IsIn users book) (left.runs k)
   runs_in k less = all_in users book (left.runs k) (runs_used k less) (may_run k less) (entries_of_runs manner count d own book left once k less)
 
-  -- what holds of what each run noted, and of what the shared side notes, holds of the book
-  in_book : (Q : BookEntry → Type 0) → ((entry : BookEntry) → is_own entry ≡ false → Q entry) → ((k : ℕ) → k < count → AllByRecursion Q (noted_by (left.runs k)))
-      → AllByRecursion Q book
-  in_book Q of_rest each =
-      subst (AllByRecursion Q) left.shuffle.book_is
-      (all_entries Q of_rest count 0 left.shuffle.log left.shuffle.below (λ k less. subst (AllByRecursion Q) (sym (entries_at manner count d own book left once k less)) (each k less)))
-
   each_user : AllByRecursion (IsUser users book) (attached_of book)
-  each_user = all_users (IsUser users book) book (in_book (OfUser (IsUser users book)) rest (λ k less. all_run_users users book (left.runs k) (runs_in k less)))
+  each_user = all_users (IsUser users book) book (in_book manner count d own book left once (OfUser (IsUser users book)) rest (λ k less. all_run_users users book (left.runs k) (runs_in k less)))
     where
       rest : (entry : BookEntry) → is_own entry ≡ false → OfUser (IsUser users book) entry
       rest (Attached pid generation) is = absurd cc
@@ -164,7 +157,7 @@ module _ (manner : Manner) (count : ℕ) (moves : List Move) (d : RosterView Mai
   redos_told : RedosAreThose moves d → AllByRecursion (λ redo. IsPidOf redo.pid (exits_of journal) → IsAmong redo.kept (redo_ends_of journal)) (redos_of book)
   redos_told those =
       all_redos (HasEnd (exits_of journal) (redo_ends_of journal)) book
-      (in_book (OfRedo (HasEnd (exits_of journal) (redo_ends_of journal))) rest
+      (in_book manner count d own book left once (OfRedo (HasEnd (exits_of journal) (redo_ends_of journal))) rest
       (λ k less. all_run_redos (exits_of journal) (redo_ends_of journal) (left.runs k) (runs_used k less) (all_told those k less)))
     where
       rest : (entry : BookEntry) → is_own entry ≡ false → OfRedo (HasEnd (exits_of journal) (redo_ends_of journal)) entry

@@ -1,3 +1,5 @@
+pub mod BookLaws
+pub mod BorneLaws
 pub mod CancelsLaws
 pub mod EntriesLaws
 pub mod OpenedLaws

@@ -17,6 +17,7 @@ keeps_board k before after more steps final last dead others count moves is =
       final = each_both (IsFinal (seating_of count moves).seats) is.last more is.final (final (seating_of count moves).seats);
       begun = λ j. begun j (ℕ_discrete j k);
       ended = λ j. ended j (ℕ_discrete j k);
+      right = is.right;
     }
   where
     begun : (j : ℕ) → Dec (j ≡ k) → (others : List Begun) × AreClosing others × (map begun_of (slot_at after j).past ≡ begun_at count j moves ++ others)

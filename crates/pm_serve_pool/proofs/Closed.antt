@@ -1,7 +1,7 @@
 -- The workers of the first slots, one slot further.
 use Rattle.std.{proofs.Common.{◌≡◌, ◌≢◌, ◌⊎◌, inl, inr, ℕ, ◌+◌, ◌<◌, List, [], ◌∷◌, ◌++◌, length, map, refl, sym, ap, ◌∙◌, subst, arith, append-nil, length-append}, specs.{Prelude.{None, Some, slice_get}, List.AllByRecursion}}
 use native.Mathlib.Decide.{ℕ_discrete}
-use Rattle.pm_serve_crew.specs.{pm_facts.Lists.same_everywhere, pm_board.{declared.views.{RosterView.RosterView, PastChild.PastChild, Sight.TheVariants.{Unused, Gathered}}, Heard.HeardAsSent, Places.{slot_at, slot_view}, Rule.{at_put, put}, Told.new_roster}, pm_store_shared.{declared.views.{Joined.Joined, Noted.Noted}, Log.entries_of, Told.{SharedModel, shared_with}}, pm_worker.{declared.mail.MailTold.MailTold, Runs.{Does, IsRun, Run, close_run, noted_by}}, Left.{IsWorked, Manner}}
+use Rattle.pm_serve_crew.specs.{pm_facts.Lists.same_everywhere, pm_board.{declared.views.{RosterView.RosterView, PastChild.PastChild, Sight.TheVariants.{Unused, Gathered}}, Heard.HeardAsSent, Places.{slot_at, slot_view}, Rule.{at_put, put}, Told.new_roster}, pm_store_shared.{declared.views.{Joined.Joined, Noted.Noted}, Log.entries_of, Told.{SharedModel, shared_with}}, pm_worker.{declared.mail.MailTold.MailTold, Runs.{Does, IsRun, Run, close_run, noted_by}}, Left.{IsBorneOut, IsWorked, Manner}}
 use Rattle.pm_serve_crew.specs.pm_worker.declared.mail.MailTold.TheVariants as told
 use Rattle.pm_serve_pool.{specs.{Closing.{AreClosed, HasClosedOne, HasHadLast, IsShut, MayClose}, Works.AreUnused}, proofs.{Lists.{all_of_each, got_end, got_within}, Slots.near_or_here}}
 
@@ -38,6 +38,7 @@ module _ (manner : Manner) where
         shared = ap (λ (joined : List Joined). shared_with s s.tokens joined) none;
         all = refl;
         worked = λ k his at. absurd (cc);
+        borne_out = λ k his at. absurd (cc);
         last = λ k less. absurd (omega arith);
         count = refl;
         others = λ j behind. refl;
@@ -69,6 +70,7 @@ module _ (manner : Manner) where
         shared = o.joined ∙ ap (λ (x : SharedModel F). shared_with x x.tokens (x.joined ++ o.his ∷ [])) a.shared;
         all = length-append a.joined (o.his ∷ []) ∙ ap (λ n. n + 1) a.all;
         worked = λ j his at. worked j his (got_end a.joined o.his his j at);
+        borne_out = λ j his at. borne j his (got_end a.joined o.his his j at);
         last = λ j near. last j near (ℕ_discrete j k);
         count = o.count ∙ a.count;
         others = λ j behind. o.others j (λ (same : j ≡ k). absurd (omega arith)) ∙ a.others j (omega arith);
@@ -88,6 +90,16 @@ module _ (manner : Manner) where
           let here : j ≡ k = h.0 ∙ a.all in
           at_put a.runs k o.runs (λ i r. i ≡ k → IsWorked manner f i r his.own) j (λ _. subst (λ (x : Joined). IsWorked manner f k o.runs x.own) h.1 o.worked) (λ ne is. absurd (ne is)) here
 
+      borne : (j : ℕ) (his : Joined) → ((slice_get a.joined j ≡ Some his) × (j < length a.joined)) ⊎ ((j ≡ length a.joined) × (o.his ≡ his)) → AllByRecursion (IsBorneOut manner.files his.past) (put a.runs k o.runs j)
+      borne j his (inl h) =
+          let less : j < length a.joined = h.1 in
+          let other : j ≢ k = λ (same : j ≡ k). (let all = a.all in absurd (omega arith)) in
+          at_put a.runs k o.runs (λ i r. i ≢ k → AllByRecursion (IsBorneOut manner.files his.past) r) j (λ no. absurd (no refl)) (λ ne. λ _. a.borne_out j his h.0) other
+      borne j his (inr h) =
+          let here : j ≡ k = h.0 ∙ a.all in
+          at_put a.runs k o.runs (λ i r. i ≡ k → AllByRecursion (IsBorneOut manner.files his.past) r) j (λ _. subst (λ (x : Joined). AllByRecursion (IsBorneOut manner.files x.past) o.runs) h.1 o.borne_out)
+          (λ ne is. absurd (ne is)) here
+
       last : (j : ℕ) → j < k + 1 → Dec (j ≡ k) → HasHadLast j d f
       last j near (yes same) = subst (λ (i : ℕ). HasHadLast i d f) (sym same) (last_from k d e f (a.others k (omega arith)) o.last)
       last j near (no other) = last_on j d e f (o.others j other) (a.last j (near_or_here j k near other))
@@ -100,7 +112,7 @@ module _ (manner : Manner) where
   closing_notes_nothing (run ∷ []) child closes is each =
       let same : child ≡ run.child = cc in
       let given : run.child.offer.given ≡ told.Close = ap (λ (x : PastChild MailTold). x.offer.given) (sym same) ∙ closes in
-      let does : run ≡ close_run run.slots run.child.offer = subst (λ (mail : MailTold). Does None manner.seed manner.limit manner.gives mail run) given each.0.does in
+      let does : run ≡ close_run run.slots run.met run.child.offer = subst (λ (mail : MailTold). Does None manner.seed manner.limit manner.gives mail run) given each.0.does in
       append-nil run.noted ∙ ap (λ (r : Run). r.noted) does
   closing_notes_nothing (run ∷ run' ∷ runs) child closes is each = absurd (cc)
 

@@ -13,10 +13,15 @@ posts_first n limit board posts new i post at =
     let same : i ≡ 0 + i = omega arith in
     subst (λ (k : ℕ). IsPostOf board limit k post) same (new.1 i post at)
 
-pub tokens_first : {F : Type 0} (n : ℕ) (s : SharedModel F) (tokens : List (TokenModel F)) → AreNewTokens n s tokens → EachFrom (IsUnusedToken s.table) 0 tokens
+-- the unused token of the slot k, of a store that got this disk
+abbrev pub IsNewToken : {F : Type 0} (home : TableId) (first : Option F) (k : ℕ) → TokenModel F → Type 0
+IsNewToken home first k token = IsUnusedToken home k token × (token.first ≡ first)
+
+pub tokens_first : {F : Type 0} (n : ℕ) (s : SharedModel F) (tokens : List (TokenModel F)) → AreNewTokens n s tokens → EachFrom (IsNewToken s.table s.first) 0 tokens
 tokens_first n s tokens new i token at =
     let same : i ≡ 0 + i = omega arith in
-    subst (λ (k : ℕ). IsUnusedToken s.table k token) same (record { home_is = (new.all.1 i token at).0; number = (new.all.1 i token at).1; own = (new.each i token at).1 })
+    subst (λ (k : ℕ). IsNewToken s.table s.first k token) same
+    (record { home_is = (new.all.1 i token at).0; number = (new.all.1 i token at).1; own = (new.each i token at).1 }, (new.each i token at).0)
 
 pub none_yet : {A : Type 0} (P : ℕ → A → Type 0) (first : ℕ) (xs : List A) → xs ≡ [] → EachFrom P first xs
 none_yet P first xs none i x at = absurd (let gone : slice_get {X = _} [] i ≡ Some x = subst (λ l. slice_get l i ≡ Some x) none at in cc)
@@ -33,28 +38,29 @@ last_of P xs x each =
     let same : 0 + length xs ≡ length xs = omega arith in
     subst (λ (k : ℕ). P k x) same (each (length xs) x (got_last xs x))
 
-module _ {R C L D B : Type 0} {link : _} (gives : C → ℕ → Type 0) (terms : Terms C) (board home : TableId) where
-  pub one_work : (k : ℕ) (token : TokenModel D) (post : PostModel MailTold) (clock : C) (work : Child R C L (TokenStore R D B) link) → IsUnusedToken home k token → IsPostOf board terms.plan.max_connections k post
+module _ {R C L D B : Type 0} {link : _} (gives : C → ℕ → Type 0) (terms : Terms C) (board home : TableId) (first : Option D) where
+  pub one_work : (k : ℕ) (token : TokenModel D) (post : PostModel MailTold) (clock : C) (work : Child R C L (TokenStore R D B) link) → IsNewToken home first k token → IsPostOf board terms.plan.max_connections k post
       → ((moment : ℕ) → gives clock moment → gives terms.clock.value moment) → work.tools.clock ≡ clock → work.tools.seed ≡ terms.plan.seed → work.tools.conf ≡ terms.plan.conf → work.post ≡ post
-      → work.store.token ≡ token → IsWorkOf gives terms board home k work
+      → work.store.token ≡ token → IsWorkOf gives terms board home first k work
   one_work k token post clock work unused is_post moments clock_is seed conf post_is token_is =
       record {
         post_is = post_is ∙ is_post;
-        home_is = ap (λ (t : TokenModel D). t.table) token_is ∙ unused.home_is;
-        number = ap (λ (t : TokenModel D). t.number) token_is ∙ unused.number;
-        own = ap (λ (t : TokenModel D). t.own) token_is ∙ unused.own;
+        home_is = ap (λ (t : TokenModel D). t.table) token_is ∙ unused.0.home_is;
+        disk = ap (λ (t : TokenModel D). t.first) token_is ∙ unused.1;
+        number = ap (λ (t : TokenModel D). t.number) token_is ∙ unused.0.number;
+        own = ap (λ (t : TokenModel D). t.own) token_is ∙ unused.0.own;
         seed = seed;
         limit = ap (λ conf. conf.authentication_ms) conf;
         moments = λ moment given. moments moment (subst (λ (c : C). gives c moment) clock_is given);
       }
 
   pub filled_more : (rest : List (TokenModel D)) (token : TokenModel D) (posts : List (PostModel MailTold)) (post : PostModel MailTold) (clock : C) (work : Child R C L (TokenStore R D B) link)
-      (works : List (Child R C L (TokenStore R D B) link)) → EachFrom (IsUnusedToken home) 0 (rest ++ token ∷ []) → EachFrom (IsPostOf board terms.plan.max_connections) 0 (posts ++ post ∷ [])
+      (works : List (Child R C L (TokenStore R D B) link)) → EachFrom (IsNewToken home first) 0 (rest ++ token ∷ []) → EachFrom (IsPostOf board terms.plan.max_connections) 0 (posts ++ post ∷ [])
       → length posts ≡ length rest → ((moment : ℕ) → gives clock moment → gives terms.clock.value moment) → work.tools.clock ≡ clock → work.tools.seed ≡ terms.plan.seed
-      → work.tools.conf ≡ terms.plan.conf → work.post ≡ post → work.store.token ≡ token → EachFrom (IsWorkOf gives terms board home) (length (rest ++ token ∷ [])) works
-      → EachFrom (IsWorkOf gives terms board home) (length rest) (work ∷ works)
+      → work.tools.conf ≡ terms.plan.conf → work.post ≡ post → work.store.token ≡ token → EachFrom (IsWorkOf gives terms board home first) (length (rest ++ token ∷ [])) works
+      → EachFrom (IsWorkOf gives terms board home first) (length rest) (work ∷ works)
   filled_more rest token posts post clock work works tokens_are posts_are same moments clock_is seed conf post_is token_is each =
-      one_before (IsWorkOf gives terms board home) (length rest) work works
-      (one_work (length rest) token post clock work (last_of (IsUnusedToken home) rest token tokens_are)
+      one_before (IsWorkOf gives terms board home first) (length rest) work works
+      (one_work (length rest) token post clock work (last_of (IsNewToken home first) rest token tokens_are)
       (subst (λ (k : ℕ). IsPostOf board terms.plan.max_connections k post) same (last_of (IsPostOf board terms.plan.max_connections) posts post posts_are)) moments clock_is seed conf post_is
-      token_is) (subst (λ (n : ℕ). EachFrom (IsWorkOf gives terms board home) n works) (length-append rest (token ∷ [])) each)
+      token_is) (subst (λ (n : ℕ). EachFrom (IsWorkOf gives terms board home first) n works) (length-append rest (token ∷ [])) each)

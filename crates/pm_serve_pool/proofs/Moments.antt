@@ -85,6 +85,7 @@ module _ {gives more : ℕ → Type 0} (on : (moment : ℕ) → gives moment →
         active = r.active;
         behind = r.behind;
         cancels = r.cancels;
+        overtaken = r.overtaken;
       }
 
   does_so : (stamp : Option ℕ) (seed : List ℕ) (limit : ℕ) (given : MailTold) (run : Run) → Does stamp seed limit gives given run → Does stamp seed limit more given run

@@ -35,7 +35,7 @@ module _ {F : Type 0} where
       subst (R first)
       (alone s.tokens (s.joined ++ b.more) (Opened 1) s.own got.0 idle.own (each_both (λ (x : Joined). x.own ≡ []) s.joined b.more idle.unused b.unused) got.2 got.3) got.1
 
-module _ {R C L D B : Type 0} {link : _} (gives : C → ℕ → Type 0) (terms : Terms C) (board home : TableId) where
+module _ {R C L D B : Type 0} {link : _} (gives : C → ℕ → Type 0) (terms : Terms C) (board home : TableId) (disk : Option D) where
   -- a work that wasn't started has an unused token
-  pub unused_works : (first : ℕ) (works : List (Child R C L (TokenStore R D B) link)) → EachFrom (IsWorkOf gives terms board home) first works → EachFrom (IsUnusedWork home) first works
+  pub unused_works : (first : ℕ) (works : List (Child R C L (TokenStore R D B) link)) → EachFrom (IsWorkOf gives terms board home disk) first works → EachFrom (IsUnusedWork home) first works
   unused_works first works each i work at = let w = each i work at in record { home_is = w.home_is; number = w.number; own = w.own }

@@ -140,6 +140,7 @@ module _ (k : ℕ) (d assigned released gathered : RosterView MailTold) (a : Has
               cancels = l.cancels;
               entries = l.entries;
             };
+        borne_out = l.borne_out;
         last = last_of_one post.knows g;
         count = g.count ∙ r.count ∙ a.2.count;
         others = others;

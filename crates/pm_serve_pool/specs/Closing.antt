@@ -1,6 +1,6 @@
 -- What is known while the workers of a pool are closed, one after the other.
-use Rattle.std.specs.Prelude.{◌≡◌, ◌≢◌, ℕ, ◌+◌, ◌<◌, ◌≤◌, true, List, [], ◌∷◌, ◌++◌, Some, length, slice_get}
-use Rattle.pm_serve_crew.specs.{pm_board.{declared.views.{Offer.Offer, PastChild.PastChild, RosterStep.TheVariants.Release, RosterView.RosterView, Sight.TheVariants.Unused}, Heard.HeardAsSent, Places.{slot_at, slot_view}, Seats.is_gathered}, pm_supervisor_journal.Stands.highest_pid, pm_board_acts.{Seating.Move, Standing.IsBoardOf}, pm_store_shared.{declared.views.Joined.Joined, Told.{SharedModel, shared_with}}, pm_worker.{declared.mail.MailTold.MailTold, Runs.Run}, Left.{IsWorked, Manner}}
+use Rattle.std.specs.{Prelude.{◌≡◌, ◌≢◌, ℕ, ◌+◌, ◌<◌, ◌≤◌, true, List, [], ◌∷◌, ◌++◌, Some, length, slice_get}, List.AllByRecursion}
+use Rattle.pm_serve_crew.specs.{pm_board.{declared.views.{Offer.Offer, PastChild.PastChild, RosterStep.TheVariants.Release, RosterView.RosterView, Sight.TheVariants.Unused}, Heard.HeardAsSent, Places.{slot_at, slot_view}, Seats.is_gathered}, pm_supervisor_journal.Stands.highest_pid, pm_board_acts.{Seating.Move, Standing.IsBoardOf}, pm_store_shared.{declared.views.Joined.Joined, Told.{SharedModel, shared_with}}, pm_worker.{declared.mail.MailTold.MailTold, Runs.Run}, Left.{IsBorneOut, IsWorked, Manner}}
 use Rattle.pm_serve_crew.specs.pm_worker.declared.mail.MailTold.TheVariants as told
 
 -- A board of so many slots, whose workers may be closed: nobody sits anywhere, no post was taken in, and no pid is above the highest
@@ -42,13 +42,14 @@ pub record HasHadLast (k : ℕ) (before after : RosterView MailTold) : Type 0 wh
   pub closes : child.offer.given ≡ told.Close
   pub past : (slot_at after k).past ≡ (slot_at before k).past ++ child ∷ []
 
--- The worker of the slot k was closed and joined, its last child released, its post taken in, and its token taken back. All else is as
--- before.
+-- The worker of the slot k was closed and joined, its last child released, its post taken in, and its token taken back; what its
+-- children told of the store is so by what the token found. All else is as before.
 pub record HasClosedOne {F : Type 0} (manner : Manner) (k : ℕ) (before after : RosterView MailTold) (shared_before shared_after : SharedModel F) : Type 0 where
   pub runs : List Run
   pub his : Joined
   pub joined : shared_after ≡ shared_with shared_before shared_before.tokens (shared_before.joined ++ his ∷ [])
   pub worked : IsWorked manner after k runs his.own
+  pub borne_out : AllByRecursion (IsBorneOut manner.files his.past) runs
   pub last : HasHadLast k before after
   pub count : length after.slots ≡ length before.slots
   pub others : (j : ℕ) → j ≢ k → slot_at after j ≡ slot_at before j
@@ -64,6 +65,7 @@ pub record AreClosed {F : Type 0} (manner : Manner) (n : ℕ) (before after : Ro
   pub shared : shared_after ≡ shared_with shared_before shared_before.tokens joined
   pub all : length joined ≡ n
   pub worked : (k : ℕ) (his : Joined) → slice_get joined k ≡ Some his → IsWorked manner after k (runs k) his.own
+  pub borne_out : (k : ℕ) (his : Joined) → slice_get joined k ≡ Some his → AllByRecursion (IsBorneOut manner.files his.past) (runs k)
   pub last : (k : ℕ) → k < n → HasHadLast k before after
   pub count : length after.slots ≡ length before.slots
   pub others : (j : ℕ) → n ≤ j → slot_at after j ≡ slot_at before j

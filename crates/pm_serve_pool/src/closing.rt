@@ -3,7 +3,7 @@ ghost use Rattle.std.specs.Prelude.{◌≡◌, ◌+◌, ◌<◌, ◌≤◌, [], 
 ghost use Rattle.pm_board.specs.{declared.views.{Offer.Offer, Sight.TheVariants.Assigned}, Models.HasAssigned, Places.slot_at, pm_exit.declared.child.Kind.TheVariants.DeadEnd};
 ghost use Rattle.pm_worker.specs.{pm_spawn.Works.work_of, declared.mail.MailTold.MailTold};
 ghost use Rattle.pm_worker.specs.declared.mail.MailTold.TheVariants as told;
-ghost use Rattle.pm_serve_pool.specs.{Closing.{AreClosed, HasClosedOne, IsReleased, IsShut, closing_pid}, Plan.manner_of, Works.{EachFrom, IsWorkOf}};
+ghost use Rattle.pm_serve_pool.specs.{Closing.{AreClosed, HasClosedOne, IsReleased, IsShut, closing_pid}, Plan.{files_of, manner_of}, Works.{EachFrom, IsWorkOf}};
 
 use crate::plan::Terms;
 use crate::pool::Worker;
@@ -69,12 +69,13 @@ fn close_one<
     requires shut { IsShut slot roster.old.knows }
     requires slot { slot < length roster.old.knows.slots }
     requires few { length roster.old.knows.slots ≤ 407 }
-    requires new { IsWorkOf C.gives terms.now roster.old.table shared.old.table slot
-        (work_of worker) }
+    requires new { IsWorkOf C.gives terms.now roster.old.table shared.old.table
+        shared.old.first slot (work_of worker) }
     requires next { slot ≡ length shared.old.joined }
     ensures table { roster.new.table ≡ roster.old.table }
-    ensures closed { HasClosedOne (manner_of C.gives terms.now) slot roster.old.knows
-        roster.new.knows shared.old shared.new }
+    ensures closed { HasClosedOne
+        (manner_of C.gives terms.now (files_of D.Disk shared.old.first)) slot
+        roster.old.knows roster.new.knows shared.old shared.new }
 {
     let _terms = terms;
     tell(roster, slot);
@@ -102,12 +103,12 @@ pub(crate) fn close_all<
     requires shut { IsShut 0 roster.old.knows }
     requires slots { length workers.items ≤ length roster.old.knows.slots }
     requires few { length roster.old.knows.slots ≤ 407 }
-    requires new { EachFrom (IsWorkOf C.gives terms.now roster.old.table shared.old.table) 0
-        (map work_of workers.items) }
+    requires new { EachFrom (IsWorkOf C.gives terms.now roster.old.table shared.old.table
+        shared.old.first) 0 (map work_of workers.items) }
     requires none { shared.old.joined ≡ [] }
     ensures table { roster.new.table ≡ roster.old.table }
-    ensures closed { AreClosed (manner_of C.gives terms.now) (length workers.items)
-        roster.old.knows roster.new.knows shared.old shared.new }
+    ensures closed { AreClosed (manner_of C.gives terms.now (files_of D.Disk shared.old.first))
+        (length workers.items) roster.old.knows roster.new.knows shared.old shared.new }
 {
     let mut workers = workers;
     let mut slot = 0;

@@ -47,8 +47,8 @@ fn fill<
     requires tokens { AreNewTokens (slots_of terms.now.plan) shared.now tokens }
     ensures roster { result.0 ≡ stock.roster }
     ensures count { length result.1.items ≡ slots_of terms.now.plan }
-    ensures works { EachFrom (IsWorkOf C.gives terms.now stock.roster.table shared.now.table) 0
-        result.1.items }
+    ensures works { EachFrom (IsWorkOf C.gives terms.now stock.roster.table shared.now.table
+        shared.now.first) 0 result.1.items }
 {
     let _shared = shared;
     let Stock {
@@ -94,11 +94,13 @@ fn start<
         (slots_of terms.plan) }
     requires shared { (first : D) × IsNewShared (slots_of terms.plan) first shared }
     requires count { length works.items ≡ slots_of terms.plan }
-    requires works { EachFrom (IsWorkOf C.gives terms roster.table shared.table) 0 works.items }
+    requires works { EachFrom (IsWorkOf C.gives terms roster.table shared.table shared.first) 0
+        works.items }
     ensures roster { IfOk result (λ made. made.roster ≡ roster) }
     ensures shared { IfOk result (λ made. made.shared ≡ shared) }
     ensures terms { IfOk result (λ made. made.pool.terms ≡ terms) }
-    ensures pool { IfOk result (λ made. IsPool C.gives roster.table shared.table made.pool) }
+    ensures pool { IfOk result (λ made.
+        IsPool C.gives roster.table shared.table shared.first made.pool) }
     ensures cause { IfErr result (λ back. back.why ≡ NoThread
         → Rose (S.faults spawner.old) (S.faults spawner.new)) }
     ensures parts { IfErr result (λ back. (first : D) → shared.first ≡ Some first
@@ -148,7 +150,7 @@ pub fn make<
         plan.now.max_connections (slots_of plan.now)) }
     ensures shared { IfOk result (λ made. IsNewShared (slots_of plan.now) disk made.shared) }
     ensures pool { IfOk result (λ made. IsPool C.gives made.roster.table made.shared.table
-        made.pool) }
+        made.shared.first made.pool) }
     ensures terms { IfOk result (λ made. (made.pool.terms.plan ≡ plan.now)
         × (made.pool.terms.clock.value ≡ clock.now)) }
     ensures cause { IfErr result (λ back. back.why ≡ NoThread

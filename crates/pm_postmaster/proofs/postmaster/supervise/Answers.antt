@@ -1,8 +1,8 @@
 use Rattle.std.{proofs.Common.{◌≡◌, ◌⊎◌, inl, inr, ℕ, List, [], refl, sym, ap, subst, ◌∙◌}, specs.Prelude.{Some, Option, IfSome, is_some}}
 use Rattle.atomic_table.specs.Seated.{TableId}
 use Rattle.pm_worker.specs.{pm_board.declared.views.RosterView.RosterView, declared.mail.MailTold.MailTold}
-use Rattle.pm_serve_pool.specs.{pm_serve_crew.Left.AreLeft, declared.{plan.{Plan.Plan, Terms.Terms}, pool.{NoPool.NoPool, Pool.Pool}}, Plan.{manner_of, slots_of}, Pools.IsPool, pm_store_shared.declared.views.Noted.Noted}
-use Rattle.pm_server.specs.{pm_disk.Cause.Rose, pm_supervisor_journal.Supervision.{at_work, told}, pm_query.declared.book.BookEntry.BookEntry, declared.end.ServerEnd.{ServerEnd, TheVariants.{NoThread, NoMemory}}}
+use Rattle.pm_serve_pool.specs.{pm_serve_crew.Left.AreLeft, declared.{plan.{Plan.Plan, Terms.Terms}, pool.{NoPool.NoPool, Pool.Pool}}, Plan.{files_of, manner_of, slots_of}, Pools.IsPool, pm_store_shared.declared.views.Noted.Noted}
+use Rattle.pm_server.specs.{pm_disk.{Cause.Rose, Files.Files}, pm_supervisor_journal.Supervision.{at_work, told}, pm_query.declared.book.BookEntry.BookEntry, declared.end.ServerEnd.{ServerEnd, TheVariants.{NoThread, NoMemory}}}
 use Rattle.pm_server_lines.proofs.LogLaws.{said_first}
 use Rattle.pm_serve_pool.specs.declared.pool.NoPool.TheVariants as pools
 use Rattle.pm_postmaster.{specs.Served.{slots_by, unmade_by}, proofs.{Beginning.begun, Finished.{adds_new, given_back, logged_whole, told_at}, Ran.{asked, board_is, cause, clears_at, connections, last_at, links, may_clear_at, may_close, may_close_at, once, redos, returned}}}
@@ -18,17 +18,19 @@ at_first : {D : Type 0} (P : D → Type 0) (f : Option D) (disk : D) → f ≡ S
 at_first P f disk is has = subst (λ o. IfSome o P) is has
 
 -- what is left goes by the plan
-by_plan : {C : Type 0} (gives : C → ℕ → Type 0) (plan : Plan) (clock : C) (terms : Terms C) (board : RosterView MailTold) (own : List Noted) (log : List BookEntry)
-    → terms.plan ≡ plan → terms.clock.value ≡ clock → AreLeft (manner_of gives terms) (slots_of terms.plan) board own log
-    → AreLeft (record { seed = plan.seed; limit = plan.conf.authentication_ms; gives = gives clock }) (slots_of plan) board own log
-by_plan {C} gives plan clock terms board own log is value left =
-    subst (λ (p : Plan). AreLeft (record { seed = p.seed; limit = p.conf.authentication_ms; gives = gives clock }) (slots_of p) board own log) is
-    (subst (λ (x : C). AreLeft (record { seed = terms.plan.seed; limit = terms.plan.conf.authentication_ms; gives = gives x }) (slots_of terms.plan) board own log) value left)
+by_plan : {C : Type 0} (gives : C → ℕ → Type 0) (plan : Plan) (clock : C) (terms : Terms C) (files handed : Option Files) (board : RosterView MailTold) (own : List Noted) (log : List BookEntry)
+    → terms.plan ≡ plan → terms.clock.value ≡ clock → files ≡ handed → AreLeft (manner_of gives terms files) (slots_of terms.plan) board own log
+    → AreLeft (record { seed = plan.seed; limit = plan.conf.authentication_ms; gives = gives clock; files = handed }) (slots_of plan) board own log
+by_plan {C} gives plan clock terms files handed board own log is value same left =
+    subst (λ (p : Plan). AreLeft (record { seed = p.seed; limit = p.conf.authentication_ms; gives = gives clock; files = handed }) (slots_of p) board own log) is
+    (subst (λ (x : C). AreLeft (record { seed = terms.plan.seed; limit = terms.plan.conf.authentication_ms; gives = gives x; files = handed }) (slots_of terms.plan) board own log) value
+    (subst (λ (f : Option Files). AreLeft (manner_of gives terms f) (slots_of terms.plan) board own log) same left))
 
-pool_at : {R C L D B X : Type 0} {link : _} (gives : C → ℕ → Type 0) (pool : Pool R C L D B X link) (board home b h : TableId) → b ≡ board → h ≡ home
-    → IsPool gives board home pool → IsPool gives b h pool
-pool_at gives pool board home b h table store was =
-    subst (λ (t : TableId). IsPool gives t h pool) (sym table) (subst (λ (t : TableId). IsPool gives board t pool) (sym store) was)
+pool_at : {R C L D B X : Type 0} {link : _} (gives : C → ℕ → Type 0) (pool : Pool R C L D B X link) (board home b h : TableId) (first disk : Option D) → b ≡ board → h ≡ home → disk ≡ first
+    → IsPool gives board home first pool → IsPool gives b h disk pool
+pool_at {D = D} gives pool board home b h first disk table store same was =
+    subst (λ (t : TableId). IsPool gives t h disk pool) (sym table)
+    (subst (λ (t : TableId). IsPool gives board t disk pool) (sym store) (subst (λ (d : Option D). IsPool gives board home d pool) (sym same) was))
 
 -- ---- it begins
 
@@ -59,8 +61,8 @@ close-store-requires-clause-pool g c =
     (ap (λ l. l.is_cut) c.new-log.ensures) c.requires.port c.in-Ok.ensures.shared.generation c.in-Ok.ensures.shared.own c.new-lost.ensures.items refl c.requires.console) in
     let parts = c.into_parts-supervision.ensures.roster in
     let clears = clears_at _ _ _ _ _ _ _ _ (ap (λ r. r.table) parts) (ap (λ r. r.knows) parts) c.clear.ensures.clears in
-    pool_at g.C.Clock.gives c.in-Ok.made.pool _ _ _ _ (clears.table ∙ (stopped.holds.stays.table ∙ ap (λ r. r.table) c.new-desk.ensures.roster))
-    stopped.holds.stays.home c.in-Ok.ensures.pool
+    pool_at g.C.Clock.gives c.in-Ok.made.pool _ _ _ _ _ _ (clears.table ∙ (stopped.holds.stays.table ∙ ap (λ r. r.table) c.new-desk.ensures.roster))
+    stopped.holds.stays.home stopped.holds.stays.disk c.in-Ok.ensures.pool
 
 pub close-store-requires-clause-board : goal.close-store-requires-clause-board
 close-store-requires-clause-board g c =
@@ -89,7 +91,9 @@ returns-in-Ok-clause-run g c =
     let stays = stopped.holds.stays in
     let made = c.in-Ok.made in
     let all = at_first _ _ c.args.outside.disk (stays.disk ∙ c.in-Ok.ensures.shared.first_is) c.close-store.ensures.left in
-    let left = by_plan g.C.Clock.gives _ c.args.outside.clock made.pool.terms _ _ _ c.in-Ok.ensures.terms.0 c.in-Ok.ensures.terms.1 all.2 in
+    let left =
+    by_plan g.C.Clock.gives _ c.args.outside.clock made.pool.terms _ (g.D.Disk.seen c.args.outside.disk) _ _ _ c.in-Ok.ensures.terms.0 c.in-Ok.ensures.terms.1
+    (ap (files_of g.D.Disk) (stays.disk ∙ c.in-Ok.ensures.shared.first_is)) all.2 in
     let last = last_at _ _ _ _ (ap slots_of c.in-Ok.ensures.terms.0) c.close-store.ensures.last in
     let entries = c.into_journal-journal.ensures ∙ ap (λ s. told s) c.into_parts-supervision.ensures.supervision in
     record {

@@ -1,5 +1,5 @@
 use Rattle.std.{proofs.{Common.{rules, ◌≡◌, ◌∙◌, ◌+◌, ◌∷◌, [], ℕ, List, ◌≤◌, ap, arith, length, length-append, subst, sym}, lemmas.List.Elements.All-pop}, specs.{Prelude.{IfSome, Option}, Option.option_to_list}}
-use Rattle.pm_serve_pool.{specs.{Plan.slots_of, Works.{EachFrom, IsUnusedToken, IsWorkOf}}, proofs.{Filling.{IsPostOf, all_but_last, filled_more, none_yet, popped_last, posts_first, tokens_first}, Lists.front_of_all}}
+use Rattle.pm_serve_pool.{specs.{Plan.slots_of, Works.{EachFrom, IsWorkOf}}, proofs.{Filling.{IsNewToken, IsPostOf, all_but_last, filled_more, none_yet, popped_last, posts_first, tokens_first}, Lists.front_of_all}}
 use Rattle.pm_serve_pool.proofs.making.fill.Goals as goal
 
 pub loop-token-init : goal.loop-token-init
@@ -16,14 +16,14 @@ loop-token-init g c =
       count = (omega arith);
       room = c.requires.room.1;
       works =
-          none_yet (IsWorkOf g.C.Clock.gives c.args.terms.now c.args.stock.roster.table c.args.shared.now.table) (length c.args.tokens) c.args.stock.works.items c.requires.room.0;
+          none_yet (IsWorkOf g.C.Clock.gives c.args.terms.now c.args.stock.roster.table c.args.shared.now.table c.args.shared.now.first) (length c.args.tokens) c.args.stock.works.items c.requires.room.0;
     }
 
 pub loop-token-preserved : goal.loop-token-preserved
 loop-token-preserved g c =
     let inv = c.loop-token.invariant in
     let rest = c.take.new.self in
-    let tokens = all_but_last (IsUnusedToken c.args.shared.now.table) rest c.loop-token.tokens c.in-Some.token c.in-Some.ensures inv.tokens in
+    let tokens = all_but_last (IsNewToken c.args.shared.now.table c.args.shared.now.first) rest c.loop-token.tokens c.in-Some.token c.in-Some.ensures inv.tokens in
     let posts_are = popped_last c.pop.result c.unwrap-post.result c.loop-token.posts.items c.pop.new.self.items c.pop.ensures.items c.unwrap-post.ensures in
     let posts = all_but_last (IsPostOf c.args.stock.roster.table c.args.terms.now.plan.max_connections) c.pop.new.self.items c.loop-token.posts.items c.unwrap-post.result posts_are inv.posts in
     let gives = All-pop (λ clock. (moment : ℕ) → g.C.Clock.gives clock moment → g.C.Clock.gives c.args.terms.now.clock.value moment) c.loop-token.clocks.items c.pop-in-Some.new.self.items c.pop-in-Some.result c.pop-in-Some.ensures.items inv.gives in
@@ -40,7 +40,7 @@ loop-token-preserved g c =
     let more_works : length c.push_front_reserved.new.self.items ≡ length (c.new.result ∷ c.loop-token.works.items) = ap length c.push_front_reserved.ensures.items in
     let count : length c.loop-token.works.items + length c.loop-token.tokens ≡ slots_of c.args.terms.now.plan = inv.count in
     record {
-      tokens = front_of_all (IsUnusedToken c.args.shared.now.table) 0 rest (c.in-Some.token ∷ []) tokens;
+      tokens = front_of_all (IsNewToken c.args.shared.now.table c.args.shared.now.first) 0 rest (c.in-Some.token ∷ []) tokens;
       posts = front_of_all (IsPostOf c.args.stock.roster.table c.args.terms.now.plan.max_connections) 0 c.pop.new.self.items (c.unwrap-post.result ∷ []) posts;
       count_posts = fewer_posts;
       count_clocks = fewer_clocks;
@@ -48,14 +48,14 @@ loop-token-preserved g c =
       count = (omega arith);
       room = subst (λ (n : ℕ). slots_of c.args.terms.now.plan ≤ n) (sym c.push_front_reserved.ensures.capacity) inv.room;
       works =
-          subst (λ (works : List _). EachFrom (IsWorkOf g.C.Clock.gives c.args.terms.now c.args.stock.roster.table c.args.shared.now.table) (length rest) works) (sym c.push_front_reserved.ensures.items)
-          (filled_more g.C.Clock.gives c.args.terms.now c.args.stock.roster.table c.args.shared.now.table rest c.in-Some.token c.pop.new.self.items c.unwrap-post.result c.unwrap.result c.new.result
+          subst (λ (works : List _). EachFrom (IsWorkOf g.C.Clock.gives c.args.terms.now c.args.stock.roster.table c.args.shared.now.table c.args.shared.now.first) (length rest) works) (sym c.push_front_reserved.ensures.items)
+          (filled_more g.C.Clock.gives c.args.terms.now c.args.stock.roster.table c.args.shared.now.table c.args.shared.now.first rest c.in-Some.token c.pop.new.self.items c.unwrap-post.result c.unwrap.result c.new.result
           c.loop-token.works.items tokens posts (sym c.pop.new.self.ok.0 ∙ fewer_posts) its (ap (λ tools. tools.clock) c.new.ensures.0) (ap (λ tools. tools.seed) c.new.ensures.0)
           (ap (λ tools. tools.conf) c.new.ensures.0) c.new.ensures.1 (ap (λ store. store.token) c.new.ensures.2)
-          (subst (λ (l : List _). EachFrom (IsWorkOf g.C.Clock.gives c.args.terms.now c.args.stock.roster.table c.args.shared.now.table) (length l) c.loop-token.works.items) c.in-Some.ensures inv.works));
+          (subst (λ (l : List _). EachFrom (IsWorkOf g.C.Clock.gives c.args.terms.now c.args.stock.roster.table c.args.shared.now.table c.args.shared.now.first) (length l) c.loop-token.works.items) c.in-Some.ensures inv.works));
     }
 
 pub returns-clause-works : goal.returns-clause-works
 returns-clause-works g c =
     let none : c.loop-token.tokens ≡ [] = search rules in
-    subst (λ (l : List _). EachFrom (IsWorkOf g.C.Clock.gives c.args.terms.now c.args.stock.roster.table c.args.shared.now.table) (length l) c.loop-token.works.items) none c.loop-token.invariant.works
+    subst (λ (l : List _). EachFrom (IsWorkOf g.C.Clock.gives c.args.terms.now c.args.stock.roster.table c.args.shared.now.table c.args.shared.now.first) (length l) c.loop-token.works.items) none c.loop-token.invariant.works

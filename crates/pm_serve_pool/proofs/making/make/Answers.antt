@@ -7,7 +7,7 @@ pub start-requires-clause-works : goal.start-requires-clause-works
 start-requires-clause-works g c κs within =
     subst
     (λ (board : TableId).
-    EachFrom (IsWorkOf g.C.Clock.gives (record { plan = c.args.plan.now; clock = c.of.result }) board c.in-Ok-new.shared.table) 0 c.fill-roster.result.1.items)
+    EachFrom (IsWorkOf g.C.Clock.gives (record { plan = c.args.plan.now; clock = c.of.result }) board c.in-Ok-new.shared.table c.in-Ok-new.shared.first) 0 c.fill-roster.result.1.items)
     (sym (ap (λ roster. roster.table) c.fill-roster.ensures.roster)) c.fill-roster.ensures.works
 
 pub returns-in-Ok-new-clause-parts : goal.returns-in-Ok-new-clause-parts
