@@ -3,7 +3,7 @@ use Rattle.std.{proofs.Common.{◌≡◌, inl, inr, List, [], ◌∷◌, ◌++�
 use Rattle.pm_server.specs.{pm_disk.Cause.Rose, pm_supervisor.declared.{Ending.Ending, Limits.Limits}, pm_state.{declared.event.PmEvent.PmEvent, Laws.RestartsSafely}, declared.{conf.Conf.Conf, end.ServerEnd.ServerEnd}}
 use Rattle.pm_server.specs.pm_supervisor.declared.Ending.TheVariants as endings
 use Rattle.pm_server.specs.pm_state.declared.event.PmEvent.TheVariants as entry
-use Rattle.pm_serve_first_crash.{specs.{Crashes.{IsFirstCrash, IsHarmless, IsUnasked, stands_behind}, Causes.{HasCause, IsUnprovoked}}, proofs.BlameLaws.{has_cause, has_crashed, unfailed_unbroken}}
+use Rattle.pm_serve_first_crash.{specs.{pm_supervisor_crashes.Crashes.{IsFirstCrash, IsHarmless, IsUnasked, stands_behind}, Causes.{HasCause, IsUnprovoked}}, proofs.BlameLaws.{has_cause, has_crashed, unfailed_unbroken}}
 use Rattle.pm_postmaster.specs.{pm_board.declared.views.RosterView.RosterView, pm_worker.declared.mail.MailTold.MailTold, Outside.ServeView, Served.{IsServed, manner_by, slots_by}, Serving.{EndsWith, IsEndBehind}}
 use Rattle.pm_serve_promises.specs.{Crashes.{CrashesForCause, IsAfterCrash}, Runs.journal_in}
 
@@ -18,7 +18,7 @@ first_of_all limits front rest journal e is first = record {
 }
 
 module _ (safely : RestartsSafely) (conf : Conf) (end : ServerEnd) (board : RosterView MailTold) (before now : ServeView) (run : IsServed conf end board before now) (unasked : AllByRecursion IsUnasked (journal_in run)) (unfailed : ¬ (Rose before.outside.disk.faults now.outside.disk.faults)) where
-  abbrev unprovoked : IsUnprovoked conf.limits (manner_by conf before) (slots_by conf.limits) run.moves board run.own run.book
+  abbrev pub unprovoked : IsUnprovoked conf.limits (manner_by conf before) (slots_by conf.limits) run.moves board run.own run.book
   unprovoked = record {
     legal = run.journal.legal;
     unasked = unasked;
@@ -28,7 +28,7 @@ module _ (safely : RestartsSafely) (conf : Conf) (end : ServerEnd) (board : Rost
     once = run.once;
   }
 
-  its_cause : (e : PmEvent) (first : IsFirstCrash conf.limits (journal_in run) e)
+  pub its_cause : (e : PmEvent) (first : IsFirstCrash conf.limits (journal_in run) e)
       → HasCause (manner_by conf before) (stands_behind conf.limits first.before) (slots_by conf.limits) run.left.runs e
   its_cause e first =
       has_cause safely conf.limits (manner_by conf before) (slots_by conf.limits) run.moves board run.own run.book unprovoked e first

@@ -1,32 +1,11 @@
 -- Each connection that was accepted is one of the talks, over its own link.
-use Rattle.std.{proofs.{Common.{◌≡◌, ℕ, zero, suc, ◌+◌, ◌<◌, Bool, true, List, [], ◌∷◌, Option, None, Some, length, map, refl, sym, ap, subst, ◌∙◌, arith}, lemmas.List.Elements.{All-contains, All-from_recursion}}, specs.{Prelude.{IfSome, is_some, slice_index_or}, List.Contains}}
+use Rattle.std.{proofs.{Common.{◌≡◌, ℕ, ◌+◌, ◌<◌, Bool, true, List, [], ◌∷◌, Option, None, Some, refl, sym, ap, subst, ◌∙◌}, lemmas.List.Elements.{All-contains, All-from_recursion}}, specs.{Prelude.{IfSome, is_some}, List.Contains}}
 use Rattle.pm_server.specs.declared.{conf.Conf.Conf, end.ServerEnd.ServerEnd}
 use Rattle.pm_promises.specs.pm_session_answers.Replies.{Talk}
-use Rattle.pm_postmaster.specs.{pm_board.{declared.views.{PastChild.PastChild, RosterView.RosterView, Sight.TheVariants.Unused, SlotView.SlotView}, Places.{slot_at, slot_view}}, pm_board_acts.pm_admit.declared.Cac.Cac, pm_outside.Visits.{Visit, Visits}, pm_worker.{declared.mail.{LinkTold.LinkTold, MailTold.MailTold}, Runs.{Does, IsRun, IsSessionRun, Run}}, Links.{AcceptedConnection, AreBackIn, BackIn, IsOffered, Serves, accepted_in}, Outside.ServeView, Served.{IsServed, manner_by, slots_by}}
+use Rattle.pm_postmaster.specs.{pm_board.{declared.views.{PastChild.PastChild, RosterView.RosterView}, Places.slot_at}, pm_board_acts.pm_admit.declared.Cac.Cac, pm_outside.Visits.{Visit, Visits}, pm_worker.{declared.mail.{LinkTold.LinkTold, MailTold.MailTold}, Runs.{Does, IsRun, IsSessionRun, Run}}, Links.{AcceptedConnection, AreBackIn, BackIn, IsOffered, Serves, accepted_in}, Outside.ServeView, Served.{IsServed, manner_by, slots_by}}
 use Rattle.pm_postmaster.specs.pm_worker.declared.mail.MailTold.TheVariants as mail
 use Rattle.pm_serve_first_crash.{specs.pm_serve_crew.{Left.Manner, Talks.AreTalksOf}, proofs.pm_serve_crew.{EntriesLaws.worked, TalksLaws.{HasTalk, talk_of_run, there_of_slots}}}
-use Rattle.pm_serve_promises.specs.{Links.{AreOverLinks, IsOverLink}, Runs.{journal_in, runs_in}}
-
--- a slot that has had a child is one of the board's
-near_by : (slots : List (SlotView MailTold)) (k : ℕ) (child : PastChild MailTold) → Contains (slice_index_or slots k (slot_view [] Unused)).past child → k < length slots
-near_by [] k child there = (let never : there.0 < 0 = there.1 in absurd (omega arith))
-near_by (x ∷ slots) zero child there = omega arith
-near_by (x ∷ slots) (suc k) child there = (let near : k < length slots = near_by slots k child there in omega arith)
-
--- one of these runs is that of the child
-record RunOfChild (runs : List Run) (child : PastChild MailTold) : Type 0 where
-  run : Run
-  there : Contains runs run
-  same : run.child ≡ child
-
-run_at : (runs : List Run) (child : PastChild MailTold) (n : ℕ) → n < length (map (λ (r : Run). r.child) runs) → slice_index_or (map (λ (r : Run). r.child) runs) n child ≡ child → RunOfChild runs child
-run_at [] child n less is = (let never : n < 0 = less in absurd (omega arith))
-run_at (first ∷ runs) child zero less is =
-    record { run = first; there = (0, (let near : 0 < length (first ∷ runs) = omega arith in near), refl); same = is }
-run_at (first ∷ runs) child (suc n) less is =
-    let low : suc n < suc (length (map (λ (r : Run). r.child) runs)) = less in
-    let rest : RunOfChild runs child = run_at runs child n (omega arith) is in
-    record { run = rest.run; there = (suc rest.there.0, (let near : rest.there.0 < length runs = rest.there.1 in omega arith), rest.there.2); same = rest.same }
+use Rattle.pm_serve_promises.{specs.{Links.{AreOverLinks, IsOverLink}, Runs.{journal_in, runs_in}}, proofs.Children.{RunOfChild, is_near, run_of_child}}
 
 -- a mail that serves has a link and a decision
 serves_so : (numbered : Bool) (n : ℕ) (decision : Cac) (m : MailTold) → Serves numbered n decision m
@@ -46,13 +25,10 @@ module _ (conf : Conf) (end : ServerEnd) (board : RosterView MailTold) (before n
   -- a connection, and the child that answered it
   module _ (n : ℕ) (c : AcceptedConnection) (k : ℕ) (child : PastChild MailTold) (there : Contains (slot_at board k).past child) (offered : IsOffered (is_some now.outside.visits) (n + 1) c child.offer) where
     less : k < slots_by conf.limits
-    less = subst (λ (count : ℕ). k < count) run.left.slots (near_by board.slots k child there)
+    less = is_near conf end board before now run k child there
 
     its : RunOfChild (run.left.runs k) child
-    its =
-        let among : Contains (map (λ (r : Run). r.child) (run.left.runs k)) child =
-        subst (λ (past : List (PastChild MailTold)). Contains past child) (worked manner (slots_by conf.limits) board run.own run.book run.left run.once k less).children there in
-        run_at (run.left.runs k) child among.0 among.1 among.2
+    its = run_of_child conf end board before now run k child there
 
     is_run : IsRun None manner.seed manner.limit manner.gives its.run
     is_run =

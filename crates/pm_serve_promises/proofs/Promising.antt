@@ -5,15 +5,16 @@ use Rattle.pm_serve_chain.proofs.ChainedLaws.{chained}
 use Rattle.pm_server.specs.{pm_supervisor_journal.Stands.any_moment, pm_query.{declared.book.BookEntry.BookEntry, Book.Base, BookLaws.AckedNeverFalls}, declared.{conf.Conf.Conf, end.ServerEnd.ServerEnd}, pm_state.Laws.RestartsSafely}
 use Rattle.pm_promises.specs.{Promises.IsPromised, Runs.IsTold}
 use Rattle.pm_postmaster.specs.{pm_board.declared.views.RosterView.RosterView, pm_worker.declared.mail.MailTold.MailTold, Outside.ServeView, Served.{IsServed, IsServeRun, manner_by, slots_by}, pm_store_remains.Remains.IsLeft}
+use Rattle.pm_supervisor_crashes.specs.Laws.{EndsForCause}
 use Rattle.pm_serve_first_crash.proofs.pm_serve_crew.TalksLaws.{FineTalks, fine_talks}
 use Rattle.pm_serve_clean_end.specs.CleanEnd.{IsLeftBy}
-use Rattle.pm_serve_promises.{specs.{PromisedServe.{IsPromisedRun, IsPromisedServe}, Runs.{journal_in, run_view, runs_in}}, proofs.{Blaming.crashes_for_cause, Linking.over_links, PromisesLaws.{all_runs, promised}}}
+use Rattle.pm_serve_promises.{specs.{PromisedServe.{IsPromisedRun, IsPromisedServe}, Runs.{journal_in, run_view, runs_in}}, proofs.{Blaming.crashes_for_cause, Completing.completes, Linking.over_links, PromisesLaws.{all_runs, promised}, Reasons.fails_for_reason}}
 
 -- what is told of the book is said of these entries
 said_of : (T : List BookEntry → Type 0) (told : Option (List BookEntry)) (book : List BookEntry) → told ≡ Some book → IfSome told T → T book
 said_of T told book is said = subst (λ (o : Option (List BookEntry)). IfSome o T) is said
 
-module _ (right : RepliesAreRight) (own : OwnEntriesStand) (never : AckedNeverFalls) (safely : RestartsSafely) where
+module _ (right : RepliesAreRight) (own : OwnEntriesStand) (never : AckedNeverFalls) (safely : RestartsSafely) (for_cause : EndsForCause) where
   module _ (conf : Conf) (end : ServerEnd) (board : RosterView MailTold) (before now : ServeView) (run : IsServed conf end board before now) where
     abbrev left_by : IsLeft before.outside.disk now.outside.disk run.book
         → IsLeftBy conf.limits (manner_by conf before) (slots_by conf.limits) run.moves board run.own run.book before.outside.disk now.outside.disk
@@ -47,6 +48,8 @@ module _ (right : RepliesAreRight) (own : OwnEntriesStand) (never : AckedNeverFa
       restarts = safely.in_order conf.limits any_moment (journal_in run) run.journal.legal;
       chained = chained (manner_by conf before) (slots_by conf.limits) run.moves board run.own run.book run.board_is run.left run.once run.renewals run.redos;
       crashes = crashes_for_cause safely conf end board before now run;
+      reason = fails_for_reason conf end board before now run;
+      completes = completes safely for_cause conf end board before now run;
       talks = told_talks.talks;
       are_talks = told_talks.are;
       links = over_links conf end board before now run told_talks.talks told_talks.are;

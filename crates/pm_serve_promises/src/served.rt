@@ -12,6 +12,7 @@ use pm_server::{Conf, Outside};
 use pm_session_answers::{own_entries_stand, replies_are_right};
 use pm_spawn::Spawner;
 use pm_state::{PmEvent, restarts_safely};
+use pm_supervisor_crashes::ends_for_cause;
 use std::alloc::Global;
 use std::sync::Wait;
 use std::thread::Threads;
@@ -53,5 +54,6 @@ where
     own_entries_stand();
     acked_never_falls();
     restarts_safely();
+    ends_for_cause();
     supervise(spawner, rt, alloc, conf, outside, console)
 }
