@@ -1,10 +1,10 @@
 -- Why a child comes to its end, and that it heeds what it was told.
-use Rattle.std.proofs.{Common.{◌≡◌, ◌≢◌, inl, inr, ℕ, Bool, true, false, IsTrue, List, [], Option, None, Some, IfSome, Result, Ok, Err, refl, sym, ◌∙◌, subst}, lemmas.Bool.true≢false}
+use Rattle.std.proofs.{Common.{◌≡◌, ◌≢◌, inl, inr, ℕ, Bool, true, false, cond, IsTrue, List, [], Option, None, Some, IfSome, Result, Ok, Err, refl, sym, ◌∙◌, subst}, lemmas.Bool.true≢false}
 use Rattle.pm_supervisor.specs.{pm_exit.declared.child.Kind.Kind, declared.Reason.Reason}
 use Rattle.pm_supervisor.specs.pm_exit.declared.child.Kind.TheVariants as kinds
 use Rattle.pm_child_life.{specs.{declared.{life.GateNo.GateNo, standing.Standing.Standing}, Life.{Child, Told, Kill, Quit, Terminate, Checkpoint, was_told}, Attention.{Attention, attention, Stands, IsAttentive}}, proofs.AttentionLaws.given_of}
 use Rattle.pm_query.specs.declared.{book.BookEntry.BookEntry, store.StoreNo.{StoreNo, TheVariants.NoMemory}}
-use Rattle.pm_aux.{specs.{declared.cause.AuxiliaryEnd.{AuxiliaryEnd, TheVariants.{Redone, Flushed, Closed, LeftOut, Refused, TurnedAway, ToldToTerminate, ToldToQuit, Killed}}, Ends.{done_by, lets_go, unless, attached_behind}, Signals.{ends_by, ends_of, IsToldTo, EndsAtOnce, HeedsTerminate, HeedsTold, StandsAt, IsHurried, EndsInside}, Work.{GoesOn, NotesInside}, Runs.{Runner, runner, user_in, at_end, EndsOutside, NotesBehind, MayBeShort, IsRunOf}}, proofs.Listening.{Tells, tells_asked, tells_met}}
+use Rattle.pm_aux.{specs.{declared.cause.AuxiliaryEnd.{AuxiliaryEnd, TheVariants.{Redone, Flushed, Closed, LeftOut, Refused, TurnedAway, ToldToTerminate, ToldToQuit, Killed}}, Ends.{done_by, lets_go, attached_behind}, Signals.{ends_by, ends_of, IsToldTo, EndsAtOnce, HeedsTerminate, HeedsTold, StandsAt, IsHurried, EndsInside}, Work.{GoesOn, NotesInside}, Runs.{Runner, runner, user_in, at_end, EndsOutside, NotesBehind, MayBeShort, IsRunOf}}, proofs.Listening.{Tells, tells_asked, tells_met}}
 
 -- ---- what ends a child at once
 
@@ -144,7 +144,7 @@ run_of kind who cause gate at noted stands short terminate attentive tells attac
   notes = notes;
 }
 
-unless_none : (goes : Bool) (attached : Option ℕ) → attached ≡ None → attached ≡ unless goes None
+unless_none : (goes : Bool) (attached : Option ℕ) → attached ≡ None → attached ≡ cond goes None None
 unless_none true attached is = is
 unless_none false attached is = is
 

@@ -17,15 +17,13 @@ ends_of standing = ends_by standing.kill standing.quit
 
 -- what it was told that ends by this cause
 abbrev pub IsToldTo : AuxiliaryEnd → Option Told → Type 0
-IsToldTo (Redone kept) told = Unit {0}
 IsToldTo Flushed told = was_given Terminate told
 IsToldTo Closed told = was_given Checkpoint told
 IsToldTo LeftOut told = was_given Checkpoint told
-IsToldTo (Refused refusal) told = Unit {0}
-IsToldTo (TurnedAway refusal) told = Unit {0}
 IsToldTo ToldToTerminate told = was_given Terminate told
 IsToldTo (ToldToQuit reason) told = was_given (Quit reason) told
 IsToldTo Killed told = was_given Kill told
+IsToldTo _ told = Unit {0}
 
 -- it ends at once
 abbrev pub EndsAtOnce : AuxiliaryEnd → Type 0

@@ -1,7 +1,7 @@
 //! How a child lets go of what it holds, or stays inside, by the cause of its end.
-ghost use Rattle.std.specs.Prelude.{◌≡◌, ℕ, List, Some, false};
+ghost use Rattle.std.specs.Prelude.{◌≡◌, ℕ, List, None, Some, false, if◌then◌else◌};
 ghost use Rattle.pm_query.specs.{declared.book.BookEntry.BookEntry, Calls.user_of};
-ghost use Rattle.pm_aux.specs.{Ends.{lets_go, unless}, Work.LeavesIf};
+ghost use Rattle.pm_aux.specs.{Ends.lets_go, Work.LeavesIf};
 
 use crate::cause::AuxiliaryEnd;
 use pm_child_life::Life;
@@ -10,8 +10,8 @@ use pm_query::Store;
 /// Lets go of the attachment, if the cause lets it.
 pub(crate) fn step_out<F: Life>(life: &mut F, cause: AuxiliaryEnd)
     requires { (generation : ℕ) × ((F.child life.old).attached ≡ Some generation) }
-    ensures attached { (F.child life.new).attached ≡ unless (lets_go cause)
-        (F.child life.old).attached }
+    ensures attached { (F.child life.new).attached
+        ≡ (if lets_go cause then None else (F.child life.old).attached) }
     ensures told { F.told life.new ≡ F.told life.old }
 {
     if cause.lets_go() {

@@ -14,7 +14,7 @@ use Rattle.pm_supervisor.specs.declared.Reason.TheVariants as reason
 use Rattle.pm_supervisor.specs.Shared as shared
 use Rattle.pm_child_life.specs.declared.life.GateNo.{GateNo}
 use Rattle.pm_child_life.specs.declared.life.GateNo.TheVariants as gate_no
-use Rattle.pm_board.{specs.{Slots.child_slots, declared.views.{Offer.Offer, PastChild.PastChild, PostNotes.PostNotes, RosterStep.RosterStep, RosterView.RosterView, Sight.{Sight, TheVariants.{Unused, Opened, Assigned, Exited, Collected, Gathered}}, SlotView.SlotView, Work.{Work, TheVariants.{Idle, Inactive, Active, Refused, Attached}}, PostView.PostView, View.{View, TheVariants.{Postmaster, Worker}}}, Words.bit, Places.{slot_at, slot_view, SlotServes, is_auxiliary, lost, is_used, used_in}, Gate.{Gate, GateAnswers, gate_of, notice_bits, gate_packed, sessions_in, open_in, notice_in, generation_in, place_of, answer_to, gate_answer, at_gate, attached, counted, staying, IsCurrent, AllUpTo, InGeneration, AuxiliaryOnce, GateOk}, Rule.{at_put, put, Phase, unused, opened, offered, running, ended, collected, gathered, child_word, Seen, Does, OfChild, OfLiving, IsPlaced, Cell, Holds}, Latches.{NotReleased, NoticedBefore, IsAssignedBy, AnsweredBefore, doings}, History.{living, Kept}, Told.{Seated, post_view, tried, tried_by, detached, after_step, MayQuit, quit_step, ready_step, new_gate, Marks, Unmarks, Tries, BacksOut, Detaches, Quits, Readies, Resets}}, proofs.{Bits.{bit_small, packed_small}, Moves.{rebased, worker_step, word_step, word_turn, St}, Gates.{uncounted_by, gate_moves, once_still}, Counts.{sum_within, notice_small, place_is, up_to_more, none_lost, attached_within, count_moves, Reads, reads}, Latches.{at_last, noticed_now, answered_now, quit_is_no_release, ready_is_no_release, reset_is_no_release, hears_met, latch_here, latches_still, latches_turn}, Seats.{seats_step, seats_still}, Histories.{kept, same_history, quiet}, Passes.{is_false, lives, passes, shown_attached, quit_history, ready_history, reset_history}, Keeps.{grown, fits_for, at_phase, placed_as, owned, does_run, does_act, does_back, does_stay}}}
+use Rattle.pm_board.{specs.{Slots.child_slots, declared.views.{Offer.Offer, PastChild.PastChild, PostNotes.PostNotes, RosterStep.RosterStep, RosterView.RosterView, Sight.{Sight, TheVariants.{Unused, Opened, Assigned, Exited, Collected, Gathered}}, SlotView.SlotView, Work.{Work, TheVariants.{Idle, Inactive, Active, Refused, Attached}}, PostView.PostView, View.{View, TheVariants.{Postmaster, Worker}}}, Words.bit, Places.{slot_at, slot_view, SlotServes, is_auxiliary, lost, is_used, used_in}, Gate.{Gate, GateAnswers, gate_of, notice_bits, gate_packed, sessions_in, open_in, notice_in, generation_in, place_of, answer_to, gate_answer, at_gate, attached, counted, staying, IsCurrent, AllUpTo, InGeneration, AuxiliaryOnce, GateOk}, Rule.{at_put, put, Phase, unused, opened, offered, running, ended, collected, gathered, child_word, Seen, Does, OfChild, OfLiving, IsPlaced, Cell, Holds}, Latches.{NotReleased, IsAssignedBy, AnsweredBefore, doings}, History.{living, Kept}, Told.{Seated, post_view, tried, tried_by, detached, after_step, MayQuit, quit_step, ready_step, new_gate, Marks, Unmarks, Tries, BacksOut, Detaches, Quits, Readies, Resets}}, proofs.{Bits.{bit_small, packed_small}, Moves.{rebased, worker_step, word_step, word_turn, St}, Gates.{uncounted_by, gate_moves, once_still}, Counts.{sum_within, notice_small, place_is, up_to_more, none_lost, attached_within, count_moves, Reads, reads}, Latches.{at_last, answered_now, quit_is_no_release, ready_is_no_release, reset_is_no_release, hears_met, latch_here, latches_still, latches_turn}, Seats.{seats_step, seats_still}, Histories.{kept, same_history, quiet}, Passes.{is_false, lives, passes, shown_attached, quit_history, ready_history, reset_history}, Keeps.{grown, fits_for, at_phase, placed_as, owned, does_run, does_act, does_back, does_stay}}}
 use Rattle.pm_board.specs.declared.views.Letter as Letter
 use Rattle.pm_board.specs.declared.views.PostStep.TheVariants as post_step
 use Rattle.pm_board.specs.declared.views.RosterStep.TheVariants as roster_step
@@ -33,9 +33,6 @@ let_in true limit word None h e = let it = go (open_in word) (nat_lt (sessions_i
     go true true e = let same : h ≡ generation_in word = cc in (refl, refl, same)
     go true false e = absurd (cc)
     go false l e = absurd (cc)
-
-same_refusal : (a b : GateNo) → ◌≡◌ {A = Option (Result ℕ GateNo)} (Some (Err a)) (Some (Err b)) → a ≡ b
-same_refusal a b e = cc
 
 -- who is told of a notice met it
 refused_by : (b : Bool) (limit word : ℕ) (q : Option Reason) (h : ℕ) (why : Reason) → answer_to b limit q word ≡ Err (gate_no.Quit h why) → (q ≡ Some why) × (h ≡ generation_in word)
@@ -289,7 +286,7 @@ module _ {J D : Type 0} (letter : Letter.Ghosts J D) where
               (passes letter limit s r.0 r.1 r.2 r.3 st k mine.0 o true (Active o) (cell s r id k o w w' mine.0 mine.2 refl) (shared.Attach o.pid) (post_step.Attach o.pid) e (ap (λ (z : PostView D). z.work) mine.2) refl refl
               (subst (λ z. IsSomeAnd z (shared.MayAttach limit st.1)) (sym known.0) (refl, lives_, st.3.noticed ∙ (sym it.notice_found ∙ may.0), λ is. let m = may.2 is in let room : sessions_in word < notes.session_limit = m.1 in (st.3.is_open ∙ (sym it.open_found ∙ m.0), omega arith)))
               refl refl refl refl (ap (λ z. z ++ post_step.Attach o.pid ∷ []) (sym (ap (λ (z : PostView D). z.notes.steps) mine.2))) (sym (ap (λ (z : PostView D). z.past) mine.2)))
-              (let l = latch_here _ _ _ _ _ (r.2 k) (running o true) w e mine.2 (r.6.each k mine.0) in let near : k < child_slots (length s.homes) = mine.0 in latches_still _ k (child_slots (length s.homes)) _ s.words r.1 _ r.2 _ (omega arith, omega arith) (ap (λ (z : PostView D). z.notes.cancels) (sym mine.2)) refl refl refl refl record { armed = l.armed; fits = l.fits; standing = l.standing; cancel_is = l.cancel_is; now = hears_met notes.session_limit _ _ _ o notes.now (Ok h) l.now (λ h' why is. absurd (cc)) (shown l.unreleased); past = l.past; unreleased = l.unreleased; named = l.named; keyed = l.keyed; reaches = l.reaches; calls = l.calls } r.6) (seats_step id k s.views r.1 r.2 _ _ _ at (r.3.each_seat id _ at) r.7),
+              (let l = latch_here _ _ _ _ _ (r.2 k) (running o true) w e mine.2 (r.6.each k mine.0) in let near : k < child_slots (length s.homes) = mine.0 in latches_still _ k (child_slots (length s.homes)) _ s.words r.1 _ r.2 _ (omega arith, omega arith) (ap (λ (z : PostView D). z.notes.cancels) (sym mine.2)) refl refl refl refl record { armed = l.armed; fits = l.fits; standing = l.standing; cancel_is = l.cancel_is; now = hears_met notes.session_limit _ _ _ o notes.now (Ok h) l.now (shown l.unreleased); past = l.past; unreleased = l.unreleased; named = l.named; keyed = l.keyed; reaches = l.reaches; calls = l.calls } r.6) (seats_step id k s.views r.1 r.2 _ _ _ at (r.3.each_seat id _ at) r.7),
           λ o' does. let both : Active o ≡ Active o' = does in let oe : o ≡ o' = cc in
               ((ap (λ (b : Result ℕ GateNo). (Worker k (tried_by w o word b), c)) (sym answer) ∙ (λ i. (Worker k (tried w (oe i) word), c))), subst (λ (z : ℕ). z < 4294967296) (sym it.generation_found) r.4.fits, it.generation_found ∙ (sym now_is ∙ ap (λ (z : Offer D). z.generation) oe)),
         )
@@ -300,9 +297,6 @@ module _ {J D : Type 0} (letter : Letter.Ghosts J D) where
         let S' : ℕ = sum_below (child_slots (length s.homes)) (λ j. staying is_session r.1.generation (put r.2 k (cell s r id k o w w' mine.0 mine.2 refl) j).post) in
         let grows : S' ≡ S + 0 = stays s r id k o w w' mine.0 mine.2 refl is_session r.1.generation 0 refl in
         let now_is : o.generation ≡ r.1.generation = (placed_as letter limit _ _ _ _ (running o true) e (r.3.each_child k mine.0)).0 in
-        let told_notice : (h : ℕ) (why : Reason) → ◌≡◌ {A = Option (Result ℕ GateNo)} (Some (Err refusal)) (Some (Err (gate_no.Quit h why))) → NotReleased o.pid r.1.notes.steps → (h ≡ o.generation) × NoticedBefore r.1.notes.steps o.pid why o.generation =
-        (λ h why is none. let same : refusal ≡ gate_no.Quit h why = same_refusal refusal (gate_no.Quit h why) is in let met = refused_by (is_session o.kind) notes.session_limit word (notice_in word) h why (answer ∙ ap Err same) in
-        (met.1 ∙ (it.generation_found ∙ sym now_is), noticed_now r.1.notes.steps o.pid why o.generation (subst (λ (z : ℕ). Contains r.1.notes.steps (roster_step.Quit why z)) (sym now_is) (r.6.noticed why (sym it.notice_found ∙ met.0))) none)) in
         let shown : IsAssignedBy r.1.notes.steps o → AnsweredBefore (doings r.1.notes.steps notes.session_limit) o (Err refusal) =
         (λ there. answered_now notes.session_limit r.1.notes.steps o (gate_of r.1) (Err refusal) r.5.4.leave there (sym now_is) (answers o.kind notes.session_limit word (gate_of r.1) (Err refusal) it.generation_found it.notice_found it.open_found answer)) in (
           Worker k w',
@@ -314,7 +308,7 @@ module _ {J D : Type 0} (letter : Letter.Ghosts J D) where
               (subst (λ (z : ℕ). GateOk limit (child_slots (length s.homes)) z (gate_of r.1) (put r.2 k (cell s r id k o w w' mine.0 mine.2 refl))) (sym (get_or-set_same s.words (child_slots (length s.homes)) ((word + place_of (is_session o.kind)) % 2 ^ 64) 0 (let wide : length s.words ≡ 3 * child_slots (length s.homes) + 1 = r.3.wide in omega arith)))
               (takes_place s r id k o w w' mine.0 mine.2 refl e lives_ refl (λ test. sym (zero-add (bit (test o.kind)))) (it.generation_found, lives_) (omega arith) (λ shut. let z : S ≡ 0 = r.4.shut shut in omega arith)))
               (quiet limit r.1 r.1 r.2 (child_slots (length s.homes)) k (cell s r id k o w w' mine.0 mine.2 refl) (running o true) (Active o) refl refl refl refl (λ _ z. z) mine.0 e (ap (λ (z : PostView D). z.work) mine.2) (sym (ap (λ (z : PostView D). z.notes.steps) mine.2)) (sym (ap (λ (z : PostView D). z.past) mine.2)) refl (λ _ z. z) r.5)
-              (let l = latch_here _ _ _ _ _ (r.2 k) (running o true) w e mine.2 (r.6.each k mine.0) in let near : k < child_slots (length s.homes) = mine.0 in latches_still _ k (child_slots (length s.homes)) _ s.words r.1 _ r.2 _ (omega arith, omega arith) (ap (λ (z : PostView D). z.notes.cancels) (sym mine.2)) refl refl refl refl record { armed = l.armed; fits = l.fits; standing = l.standing; cancel_is = l.cancel_is; now = hears_met notes.session_limit _ _ _ o notes.now (Err refusal) l.now (λ h' why is. told_notice h' why is l.unreleased.1) (shown l.unreleased); past = l.past; unreleased = l.unreleased; named = l.named; keyed = l.keyed; reaches = l.reaches; calls = l.calls } r.6) (seats_step id k s.views r.1 r.2 _ _ _ at (r.3.each_seat id _ at) r.7),
+              (let l = latch_here _ _ _ _ _ (r.2 k) (running o true) w e mine.2 (r.6.each k mine.0) in let near : k < child_slots (length s.homes) = mine.0 in latches_still _ k (child_slots (length s.homes)) _ s.words r.1 _ r.2 _ (omega arith, omega arith) (ap (λ (z : PostView D). z.notes.cancels) (sym mine.2)) refl refl refl refl record { armed = l.armed; fits = l.fits; standing = l.standing; cancel_is = l.cancel_is; now = hears_met notes.session_limit _ _ _ o notes.now (Err refusal) l.now (shown l.unreleased); past = l.past; unreleased = l.unreleased; named = l.named; keyed = l.keyed; reaches = l.reaches; calls = l.calls } r.6) (seats_step id k s.views r.1 r.2 _ _ _ at (r.3.each_seat id _ at) r.7),
           λ o' does. let both : Active o ≡ Active o' = does in let oe : o ≡ o' = cc in
               ((ap (λ (b : Result ℕ GateNo). (Worker k (tried_by w o word b), c)) (sym answer) ∙ (λ i. (Worker k (tried w (oe i) word), c))), subst (λ (z : ℕ). z < 4294967296) (sym it.generation_found) r.4.fits, it.generation_found ∙ (sym now_is ∙ ap (λ (z : Offer D). z.generation) oe)),
         )

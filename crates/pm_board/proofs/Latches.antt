@@ -7,7 +7,7 @@ use Rattle.pm_facts.specs.Numbers.{sum_below}
 use Rattle.pm_supervisor.specs.{pm_exit.declared.child.{Kind.Kind, Status.Status}, declared.Reason.Reason}
 use Rattle.pm_child_life.specs.declared.life.{GateNo.GateNo, Signals.Signals}
 use Rattle.pm_child_life.specs.declared.life.GateNo.TheVariants as gate_no
-use Rattle.pm_board.{specs.{declared.views.{Heard.Heard, Offer.Offer, PastChild.PastChild, PostView.PostView, RosterStep.{RosterStep, TheVariants.{Assign, Release, Quit, Ready, Reset, Send}}, RosterView.RosterView, Signal.Signal}, Words.bit, Gate.{Gate, GateAnswers, first_gate, gate_of_steps}, Latch.{latch_pid, signal_number}, Latches.{times_made_on, made_on, CallsIn, LatchesOf, is_send, times_sent, times_given, NotSent, Reaches, ReachesIn, NotReleased, NoticedBefore, IsAssignedBy, AnsweredBefore, doings, HeardRightly, HearsRightly, OfRunning, OfUnreleased, EachHeard, beside, waiting, times_told, times_made, WereMade, LatchOk, latch_at, cancel_at, Latches}, Rule.{Phase, unused, opened, offered, running, ended, collected, gathered, Cell, put, at_put, no_signals, idle_post}}, proofs.{Counts.count_moves, BoardLaws.sent-append}}
+use Rattle.pm_board.{specs.{declared.views.{Heard.Heard, Offer.Offer, PastChild.PastChild, PostView.PostView, RosterStep.{RosterStep, TheVariants.{Assign, Release, Quit, Ready, Reset, Send}}, RosterView.RosterView, Signal.Signal}, Words.bit, Gate.{Gate, GateAnswers, first_gate, gate_of_steps}, Latch.{latch_pid, signal_number}, Latches.{times_made_on, made_on, CallsIn, LatchesOf, is_send, times_sent, times_given, NotSent, Reaches, ReachesIn, NotReleased, IsAssignedBy, AnsweredBefore, doings, HeardRightly, HearsRightly, OfRunning, OfUnreleased, EachHeard, beside, waiting, times_told, times_made, WereMade, LatchOk, latch_at, cancel_at, Latches}, Rule.{Phase, unused, opened, offered, running, ended, collected, gathered, Cell, put, at_put, no_signals, idle_post}}, proofs.{Counts.count_moves, BoardLaws.sent-append}}
 
 -- lists
 
@@ -80,14 +80,6 @@ send_is_no_release slot pid p g kind signal kind' g' h = let no_ : Send slot p k
 pub release_is_other : (pid p g : ℕ) (kind : Kind) → pid ≢ p → NotReleased pid (Release p kind g ∷ [])
 release_is_other pid p g kind ne kind' g' h = let same : Release p kind g ≡ Release pid kind' g' = only _ _ h in let it : p ≡ pid = cc in absurd (ne (sym it))
 
-noticed-append : (xs ys : List RosterStep) (pid : ℕ) (why : Reason) (g : ℕ) → NoticedBefore xs pid why g → NoticedBefore (xs ++ ys) pid why g
-noticed-append xs ys pid why g h = (h.0, h.1 ++ ys, ap (λ z. z ++ ys) h.2 ∙ append_assoc h.0 (Quit why g ∷ h.1) ys, h.3)
-
--- a notice that was given stands before the release of a child that isn't released
-pub noticed_now : (xs : List RosterStep) (pid : ℕ) (why : Reason) (g : ℕ) → Contains xs (Quit why g) → NotReleased pid xs → NoticedBefore xs pid why g
-noticed_now xs pid why g h none = let t = split xs (Quit why g) h in
-    (t.0, t.1, t.2, λ kind h' c. none kind h' (subst (λ z. Contains z (Release pid kind h')) (sym t.2) (Contains-append_left t.0 (Quit why g ∷ t.1) _ c)))
-
 pub assigned-append : {D : Type 0} (xs ys : List RosterStep) (o : Offer D) → IsAssignedBy xs o → NotReleased o.pid ys → IsAssignedBy (xs ++ ys) o
 assigned-append xs ys o h none = ((h.0.0, Contains-append_left xs ys _ h.0.1), not_released-append o.pid xs ys h.1 none)
 
@@ -104,7 +96,6 @@ module _ {D : Type 0} (limit : ℕ) where
     heard-more o h r = record {
       sent = λ number. subst (λ (z : ℕ). times_given number h.given ≤ z) (sym (sent-append number o.pid xs ys)) (let was : times_given number h.given ≤ times_sent number o.pid xs = r.sent number in omega arith);
       cancels = grow o.pid (times_told h.given + bit h.heeded) r.cancels;
-      met = λ g why e. let m = r.met g why e in (m.0, noticed-append xs ys o.pid why o.generation m.1);
       shown = λ answer e. answered-append xs ys o answer (r.shown answer e);
     }
 
@@ -122,18 +113,18 @@ same_answer : (a b : Result ℕ GateNo) → Some a ≡ Some b → a ≡ b
 same_answer a b e = cc
 
 -- a child that has gone to the gate
-pub hears_met : {D : Type 0} (limit : ℕ) (steps : List RosterStep) (x : ℕ → ℕ → Type 0) (latch : ℕ) (o : Offer D) (h : Heard) (answer : Result ℕ GateNo) → HearsRightly (doings steps limit) x latch o h → ((q : ℕ) (why : Reason) → Some answer ≡ Some (Err (gate_no.Quit q why)) → (q ≡ o.generation) × NoticedBefore steps o.pid why o.generation)
+pub hears_met : {D : Type 0} (limit : ℕ) (steps : List RosterStep) (x : ℕ → ℕ → Type 0) (latch : ℕ) (o : Offer D) (h : Heard) (answer : Result ℕ GateNo) → HearsRightly (doings steps limit) x latch o h
     → AnsweredBefore (doings steps limit) o answer
     → HearsRightly (doings steps limit) x latch o record h { met = Some answer }
-hears_met limit steps x latch o h answer r met shown = record {
-  so_far = record { sent = r.so_far.sent; cancels = r.so_far.cancels; met = met; shown = λ told e. subst (AnsweredBefore (doings steps limit) o) (same_answer answer told e) shown };
+hears_met limit steps x latch o h answer r shown = record {
+  so_far = record { sent = r.so_far.sent; cancels = r.so_far.cancels; shown = λ told e. subst (AnsweredBefore (doings steps limit) o) (same_answer answer told e) shown };
   still = r.still;
 }
 
 -- a child that has just started has heard nothing
 pub hears_first : {D : Type 0} (limit : ℕ) (steps : List RosterStep) (x : ℕ → ℕ → Type 0) (latch : ℕ) (o : Offer D) (cancel : ℕ) → ((p : ℕ) → x p 0) → (0 < cancel → x cancel 1) → latch_pid latch ≡ o.pid → ((number : ℕ) → number < 5 → bit_at latch number ≤ times_sent number (latch_pid latch) steps) → HearsRightly (doings steps limit) (beside x cancel) latch o no_signals
 hears_first limit steps x latch o cancel none made is standing = record {
-  so_far = record { sent = λ number. omega arith; cancels = first cancel o.pid x none made; met = λ h why e. absurd (cc); shown = λ told e. absurd (cc) };
+  so_far = record { sent = λ number. omega arith; cancels = first cancel o.pid x none made; shown = λ told e. absurd (cc) };
   still = λ number small. subst (λ (z : ℕ). 0 + bit_at latch number ≤ times_sent number z steps) is (omega (arith, standing number small));
 }
   where

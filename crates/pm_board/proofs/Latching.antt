@@ -231,7 +231,6 @@ module _ {D : Type 0} (limit : ℕ) (steps : List RosterStep) (x : ℕ → ℕ �
           (λ small. let stood : bit (is_given number s) ≤ bit_at latch number = given_stands latch h.heeded number (omega arith) in let was : times_given number h.given + bit_at latch number ≤ times_sent number o.pid steps = r.still number (omega arith) in omega arith)
           (λ big. let none_ : bit (is_given number s) ≡ 0 = none_given number s (omega arith) in let was : times_given number h.given ≤ times_sent number o.pid steps = r.so_far.sent number in omega arith);
       cancels = subst (x o.pid) (let more : times_told (h.given ++ s ∷ []) ≡ times_told h.given + bit s.cancel = told-append h.given s in let all_ : times_told h.given + bit h.heeded ≡ times_told (h.given ++ s ∷ []) + bit false = omega arith in all_) r.so_far.cancels;
-      met = r.so_far.met;
       shown = r.so_far.shown;
     };
     still = λ number small. let all : times_given number (h.given ++ s ∷ []) ≡ times_given number h.given + bit (is_given number s) = given-append number h.given s in
@@ -242,7 +241,7 @@ module _ {D : Type 0} (limit : ℕ) (steps : List RosterStep) (x : ℕ → ℕ �
   -- a child has heeded a cancel, or met none
   hears_heeded : ((p m m' : ℕ) → m' ≤ m → x p m → x p m') → (latch : ℕ) (o : Offer D) (cancel : ℕ) (h : Heard) → 0 < o.pid → HearsRightly (doings steps limit) (beside x cancel) latch o h → HearsRightly (doings steps limit) (beside x (either (eqb cancel o.pid) 0 cancel)) latch o record h { heeded = cancel == o.pid; found = h.found || (cancel == o.pid) }
   hears_heeded less_ latch o cancel h pos r = record {
-    so_far = record { sent = r.so_far.sent; cancels = less_ o.pid (times_told h.given + bit h.heeded + waiting cancel o.pid) _ (moved cancel o.pid pos (times_told h.given) (bit h.heeded)) r.so_far.cancels; met = r.so_far.met; shown = r.so_far.shown };
+    so_far = record { sent = r.so_far.sent; cancels = less_ o.pid (times_told h.given + bit h.heeded + waiting cancel o.pid) _ (moved cancel o.pid pos (times_told h.given) (bit h.heeded)) r.so_far.cancels; shown = r.so_far.shown };
     still = r.still;
   }
     where
@@ -253,7 +252,7 @@ module _ {D : Type 0} (limit : ℕ) (steps : List RosterStep) (x : ℕ → ℕ �
 
   -- what was heard before stays right where the cancel is heeded
   heard_still : ((p m m' : ℕ) → m' ≤ m → x p m → x p m') → (own cancel : ℕ) (o : Offer D) (h : Heard) → HeardRightly (doings steps limit) (beside x cancel) o h → HeardRightly (doings steps limit) (beside x (either (eqb cancel own) 0 cancel)) o h
-  heard_still less_ own cancel o h r = record { sent = r.sent; cancels = less_ o.pid (times_told h.given + bit h.heeded + waiting cancel o.pid) _ (exchanged cancel own 0 (λ w. times_told h.given + bit h.heeded + waiting w o.pid ≤ times_told h.given + bit h.heeded + waiting cancel o.pid) (λ _. omega arith) (λ _. omega arith)) r.cancels; met = r.met; shown = r.shown }
+  heard_still less_ own cancel o h r = record { sent = r.sent; cancels = less_ o.pid (times_told h.given + bit h.heeded + waiting cancel o.pid) _ (exchanged cancel own 0 (λ w. times_told h.given + bit h.heeded + waiting w o.pid ≤ times_told h.given + bit h.heeded + waiting cancel o.pid) (λ _. omega arith) (λ _. omega arith)) r.cancels; shown = r.shown }
 
 -- a cancel that stood was found by the heed that took it
 calls_heeded : (c p : ℕ) (before : Bool) → (p ≤ c) ⊎ (before ≡ true) → (p ≤ either (eqb c p) 0 c) ⊎ ((before || (c == p)) ≡ true)
@@ -365,7 +364,7 @@ module _ (steps : List RosterStep) (x y : ℕ → ℕ → Type 0) (pid : ℕ) (g
           (λ gt. let e : max c pid ≡ c = omega arith in let z : waiting (max c pid) p ≡ waiting c p = ap (λ (q : ℕ). waiting q p) e in omega arith)
 
   heard_raised : {D : Type 0} (limit c : ℕ) (o : Offer D) (h : Heard) → HeardRightly (doings steps limit) (beside x c) o h → HeardRightly (doings steps limit) (beside y (max c pid)) o h
-  heard_raised limit c o h r = record { sent = r.sent; cancels = raised c o.pid (times_told h.given + bit h.heeded) r.cancels; met = r.met; shown = r.shown }
+  heard_raised limit c o h r = record { sent = r.sent; cancels = raised c o.pid (times_told h.given + bit h.heeded) r.cancels; shown = r.shown }
 
   -- the cancel for this pid stands, and what stood for others stays
   call_raised : (c p : ℕ) → (0 < made p → p ≤ c) → 0 < made' p → p ≤ max c pid

@@ -24,9 +24,7 @@ abbrev pub gate_after : Gate → RosterStep → Gate
 gate_after gate (Quit reason generation) = record gate { noticed = Some reason }
 gate_after gate (Ready generation) = record gate { is_open = true; noticed = None }
 gate_after gate (Reset generation) = record { generation = generation; is_open = false; noticed = None }
-gate_after gate (Assign slot pid kind generation) = gate
-gate_after gate (Release pid kind generation) = gate
-gate_after gate (Send slot pid kind signal generation) = gate
+gate_after gate _ = gate
 
 abbrev pub gate_of_steps : Gate → List RosterStep → Gate
 gate_of_steps gate [] = gate

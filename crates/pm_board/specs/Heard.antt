@@ -3,7 +3,7 @@ use Rattle.std.specs.{Prelude.{◌≡◌, ℕ, ◌<◌, ◌⊎◌, true, List, l
 use mathlib.Core.Option.{some}
 use lib.ListN.{get_elem?}
 use Rattle.pm_keys.specs.CancelKey.{cancel_key}
-use Rattle.pm_board.specs.{declared.views.{Cancel.Cancel, PastChild.PastChild, PostNotes.PostNotes, PostView.PostView, RosterView.RosterView, Sight.TheVariants.Gathered, View.{View, TheVariants.Worker}}, Places.slot_at, Latches.{EachHeard, HeardBy, doings_of}, Seats.is_gathered}
+use Rattle.pm_board.specs.{declared.views.{Cancel.Cancel, PastChild.PastChild, PostNotes.PostNotes, PostView.PostView, RosterView.RosterView, Sight.TheVariants.Gathered, View.{View, TheVariants.Worker}}, Places.slot_at, Latches.{EachHeard, HeardRightly, doings_of}, Seats.is_gathered}
 
 -- a cancel for this pid, that was made with its key under the seed of that call
 abbrev pub IsCancelFor : ℕ → Cancel → Type 0
@@ -34,4 +34,4 @@ module _ {D : Type 0} where
   abbrev pub HeardAsSent : RosterView D → Type 0
   HeardAsSent d =
       (k : ℕ) (past : List (PastChild D)) (notes : PostNotes) → (slot_at d k).sight ≡ Gathered past notes
-      → EachHeard (HeardBy (doings_of d) (IsKnownAtLast d)) past notes.heard
+      → EachHeard (λ x h. HeardRightly (doings_of d) (IsKnownAtLast d) x.offer h) past notes.heard

@@ -48,13 +48,11 @@ signals_at word heeded =
 
 abbrev pub is_crash : Option Reason → Bool
 is_crash (Some Crash) = true
-is_crash (Some Stop) = false
-is_crash None = false
+is_crash _ = false
 
 abbrev pub is_stop : Option Reason → Bool
 is_stop (Some Stop) = true
-is_stop (Some Crash) = false
-is_stop None = false
+is_stop _ = false
 
 -- the signal of this number is among those of an answer
 abbrev pub is_given : ℕ → Signals → Bool

@@ -10,11 +10,7 @@ use Rattle.pm_board.specs.{declared.views.{Cancel.Cancel, Heard.Heard, Offer.Off
 -- a step is a send of the signal of this number to this pid
 abbrev pub is_send : ℕ → ℕ → RosterStep → Bool
 is_send number pid (Send slot p kind signal generation) = (p == pid) && (signal_number signal == number)
-is_send number pid (Assign slot p kind generation) = Bool.false
-is_send number pid (Release p kind generation) = Bool.false
-is_send number pid (Quit why generation) = Bool.false
-is_send number pid (Ready generation) = Bool.false
-is_send number pid (Reset generation) = Bool.false
+is_send number pid _ = Bool.false
 
 -- how often the supervisor sent that signal to that pid
 abbrev pub times_sent : ℕ → ℕ → List RosterStep → ℕ
@@ -48,11 +44,6 @@ Reaches steps latch pid given =
 -- no child of this pid was released
 abbrev pub NotReleased : ℕ → List RosterStep → Type 0
 NotReleased pid steps = (kind : Kind) (generation : ℕ) → ¬ (Contains steps (Release pid kind generation))
-
--- the supervisor gave this notice in this generation, before it released a child of this pid, if it did
-abbrev pub NoticedBefore : List RosterStep → ℕ → Reason → ℕ → Type 0
-NoticedBefore steps pid why generation =
-    (before after : List RosterStep) × (steps ≡ before ++ Quit why generation ∷ after) × NotReleased pid before
 
 -- what the supervisor did: its own steps, and how many sessions it lets be attached
 pub record Doings : Type 0 where
@@ -95,7 +86,7 @@ beside cancelled cancel pid times = cancelled pid (times + waiting cancel pid)
 
 module _ {D : Type 0} where
   abbrev pub doings_of : RosterView D → Doings
-  doings_of d = doings d.notes.steps d.session_limit
+  doings_of d = record { steps = d.notes.steps; session_limit = d.session_limit }
 
   -- this child was assigned, and none of its pid released
   abbrev pub IsAssignedBy : List RosterStep → Offer D → Type 0
@@ -110,11 +101,10 @@ module _ {D : Type 0} where
       × GateAnswers done.session_limit o.kind (gate_of_steps first_gate before) answer
 
   -- What a child heard was meant for it. It was given no signal more often than it was sent to it, and heeded no more cancels than
-  -- there are for its pid. Where the gate told it of a notice, the supervisor had given that
+  -- there are for its pid
   pub record HeardRightly (done : Doings) (cancelled : ℕ → ℕ → Type 0) (o : Offer D) (h : Heard) : Type 0 where
     pub sent : (number : ℕ) → times_given number h.given ≤ times_sent number o.pid done.steps
     pub cancels : cancelled o.pid (times_told h.given + bit h.heeded)
-    pub met : (g : ℕ) (why : Reason) → h.met ≡ Some (Err (gate_no.Quit g why)) → (g ≡ o.generation) × NoticedBefore done.steps o.pid why o.generation
     -- and what it met at the gate, if it went there, the gate answered, as it was while the child was there
     pub shown : (answer : Result ℕ GateNo) → h.met ≡ Some answer → AnsweredBefore done o answer
 
@@ -179,8 +169,7 @@ module _ {D : Type 0} where
   abbrev pub EachHeard : (PastChild D → Heard → Type 0) → List (PastChild D) → List Heard → Type 0
   EachHeard P [] [] = Unit {0}
   EachHeard P (x ∷ xs) (h ∷ hs) = P x h × EachHeard P xs hs
-  EachHeard P [] (h ∷ hs) = ⊥
-  EachHeard P (x ∷ xs) [] = ⊥
+  EachHeard P _ _ = ⊥
 
   abbrev pub HeardBy : Doings → (ℕ → ℕ → Type 0) → PastChild D → Heard → Type 0
   HeardBy done cancelled x h = HeardRightly done cancelled x.offer h

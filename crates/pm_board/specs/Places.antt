@@ -10,9 +10,8 @@ abbrev pub SlotServes : ℕ → ℕ → Kind → Type 0
 SlotServes count slot kind.Startup = slot ≡ 0
 SlotServes count slot kind.Checkpointer = slot ≡ 1
 SlotServes count slot kind.Writer = slot ≡ 2
-SlotServes count slot kind.Worker = (3 ≤ slot) × (slot + 4 < count)
-SlotServes count slot kind.Backend = (3 ≤ slot) × (slot + 4 < count)
 SlotServes count slot kind.DeadEnd = Unit {0}
+SlotServes count slot _ = (3 ≤ slot) × (slot + 4 < count)
 
 -- startup child, checkpointer or writer
 abbrev pub is_auxiliary : Kind → Bool

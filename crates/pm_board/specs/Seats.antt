@@ -8,11 +8,7 @@ module _ {D : Type 0} where
   -- the slot's post was taken in
   abbrev pub is_gathered : Sight D → Bool
   is_gathered (Gathered past notes) = true
-  is_gathered Unused = false
-  is_gathered (Opened q) = false
-  is_gathered (Assigned o) = false
-  is_gathered (Exited o status active) = false
-  is_gathered (Collected o status active) = false
+  is_gathered _ = false
 
   -- A worker's seat is there with what the rule has of it. Once its post was taken in it is spent, and the supervisor knows that
   pub data HasSeat (views : List (View D)) (sight : Sight D) (k : ℕ) (c : Cell D) : Type 0 where

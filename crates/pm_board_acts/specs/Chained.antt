@@ -4,30 +4,16 @@ use Rattle.pm_state.specs.{pm_modes.declared.Mode.Mode, pm_supervisor.Children.o
 use Rattle.pm_state.specs.pm_modes.declared.Mode.TheVariants as mode
 use Rattle.pm_state.specs.declared.event.PmEvent.TheVariants as entry
 use Rattle.pm_worker.specs.{pm_outside.Visits.{Visit, Visits}, pm_query.declared.book.BookEntry.BookEntry, pm_board.declared.views.RosterView.RosterView}
-use Rattle.pm_supervisor_chain.specs.{Chain.{AgreeOnGenerations, RedosEnd, RedosAreTold, UsersWereStarted, AttachOnce, AreDistinct, attached_of, gone_from, lost_from}, Steps.ChildRun}
-use Rattle.pm_board_acts.specs.{Seating.{Move, Notes, Reads, PortEnds, PidsEnd, Request, Nothing, Stop, Kill, ends, journal_of}, Standing.IsBoardOf, Runs.{AreGatheredRuns, EndsActiveAs, EndsAreRuns, IsOnBoard}}
+use Rattle.pm_supervisor_chain.specs.{Chain.{RedosEnd, UsersWereStarted, AttachOnce, attached_of}}
+use Rattle.pm_board_acts.specs.Seating.{Move, Notes, Reads, PortEnds, PidsEnd, Request, Nothing, Stop, Kill}
 
 -- ---- journal and book
 
--- The children that ended while their slots were active are gone, in that order, and then whoever else was still inside; each once.
-pub record BeginsWithLost (gone lost : List ℕ) : Type 0 where
-  pub others : List ℕ
-  pub is : gone ≡ lost ++ others
-  pub once : AreDistinct gone
-
-abbrev pub LostAreGone : List (List ℕ) → List (List ℕ) → Type 0
-LostAreGone [] lost = Unit {0}
-LostAreGone (pids ∷ gone) [] = ⊥
-LostAreGone (pids ∷ gone) (those ∷ lost) = BeginsWithLost pids those × LostAreGone gone lost
-
--- the chain of a server whose children may leave the store without its noting that
+-- Journal and book tell of the same ends of redo and of the same children; whom a renewal took out is told beside it.
 pub record IsChainedLoosely (journal : List PmEvent) (book : List BookEntry) : Type 0 where
-  pub generations : AgreeOnGenerations journal book
   pub redos_end : RedosEnd journal book
-  pub redos_told : RedosAreTold journal book
   pub users : UsersWereStarted journal book
   pub once : AttachOnce (attached_of book)
-  pub gone : LostAreGone (gone_from [] book) ([] ∷ lost_from [] journal)
 
 -- ---- requests
 
@@ -99,20 +85,3 @@ pub record LinksCameBack (journal : List PmEvent) (visits : Visits) : Type 0 whe
   pub given : length visits.given ≡ length (pids_accepted journal)
   pub back : length visits.back ≡ length visits.given
   pub each : (n : ℕ) → 1 ≤ n → n ≤ length visits.given → (visit : Visit) × Contains visits.back visit × (visit.number ≡ n)
-
--- ---- all of it
-
-pub record AreTied {D : Type 0} (IsNumber : List ℕ → ℕ → Type 0) (count : ℕ) (moves : List Move) (book : Option (List BookEntry)) (d : RosterView D) (runs : ℕ → List ChildRun)
-    (lines : Option (List (List ℕ))) (ended spent short : Bool) (visits : Option Visits) : Type 0 where
-  -- journal and book: generations, ends of redo, children, and who is gone
-  pub chained : IfSome book (IsChainedLoosely (journal_of count moves))
-  -- the roster's steps are those of the entries
-  pub board : IsBoardOf count moves d
-  pub on_board : AllByRecursion (IsOnBoard count) moves
-  -- console and port
-  pub asked : IfSome lines (λ ls. AsksAsTold IsNumber moves ls ended spent short)
-  pub links : IfSome visits (LinksCameBack (journal_of count moves))
-  -- each end in the journal is that of a run
-  pub gathered : AreGatheredRuns runs d
-  pub ends_are : EndsAreRuns count runs (journal_of count moves)
-  pub active : AllByRecursion (λ e. AllByRecursion EndsActiveAs (ends e)) (journal_of count moves)

@@ -17,9 +17,4 @@ abbrev pub class_of : Kind → Bool → Bool → Status → Class
 class_of Startup in_shutdown was_active status = if is_exit_0 status then Normal else StartupFailed
 class_of Checkpointer in_shutdown was_active status = if is_exit_0 status && in_shutdown then Normal else Crash
 class_of Writer in_shutdown was_active status = if is_exit_0 status then Normal else Crash
-class_of Worker in_shutdown was_active status =
-    if (is_exit_0 status || is_exit_1 status) && not was_active then Normal else Crash
-class_of Backend in_shutdown was_active status =
-    if (is_exit_0 status || is_exit_1 status) && not was_active then Normal else Crash
-class_of DeadEnd in_shutdown was_active status =
-    if (is_exit_0 status || is_exit_1 status) && not was_active then Normal else Crash
+class_of _ in_shutdown was_active status = if (is_exit_0 status || is_exit_1 status) && not was_active then Normal else Crash

@@ -1,8 +1,8 @@
 -- The session of a child to which nothing happens.
-use Rattle.std.{proofs.{Common.{◌≡◌, ◌⊎◌, inl, inr, ℕ, ◌≤◌, List, [], ◌∷◌, ◌++◌, All, Option, None, Some, Ok, refl, sym, ◌∙◌, ap, subst, append_assoc}, lemmas.List.Elements.{All-nil, All-cons}}, specs.Prelude.Bool}
-use Rattle.pm_server.specs.{pm_outside.Traffic.{Traffic, IsFresh}, pm_query.{Calls.newcomer, declared.book.BookEntry.BookEntry}, pm_session.{pm_session_exchange.{Exchange.{LinkView, HasFailed}, Sent.Turn, Ends.LetsGo, Queries.IsCancelledTurn, declared.ending.{Cause.{Cause, TheVariants.{Terminated, Cancelling, LinkEnded, LinkFailed, TimedOut, PacketRefused, MessageRefused, DecisionRefused, GateRefused, ShortOfMemory, Panicked, ToldToTerminate, ToldToQuit, Killed, Overtaken}}, Stage.{Stage, TheVariants.{Outside, Entering, Greeted}}}}, Session.{Ending, HasAskedFor, HasCancelled, HeedsTold, IsAttachedAt, IsAttachedBehind, status_of, IsText, IsSession, IsCaused, CausedBy, HasEntered, NotesOutside, EndsAt, TurnsAway, between}}, pm_startup.declared.phase.Phase.Phase}
+use Rattle.std.{proofs.{Common.{◌≡◌, ◌≢◌, ◌⊎◌, inl, inr, ℕ, ◌≤◌, List, [], ◌∷◌, All, Option, None, Some, Ok, refl, sym, ◌∙◌, subst}, lemmas.List.Elements.{All-nil, All-cons}}, specs.Prelude.Bool}
+use Rattle.pm_server.specs.{pm_outside.Traffic.{Traffic, IsFresh}, pm_query.{Calls.newcomer, declared.book.BookEntry.BookEntry}, pm_session.{pm_session_exchange.{Exchange.{LinkView, HasFailed}, Sent.{Turn, Cancelled}, Ends.LetsGo, declared.ending.{Cause.{Cause, TheVariants.{Terminated, Cancelling, LinkEnded, LinkFailed, TimedOut, PacketRefused, MessageRefused, DecisionRefused, GateRefused, ShortOfMemory, Panicked, ToldToTerminate, ToldToQuit, Killed, Overtaken}}, Stage.{Stage, TheVariants.{Outside, Entering, Greeted}}}}, Heeding.TurnsHeed, Session.{Ending, HasAskedFor, HasCancelled, HeedsTold, ByStage, IsAttachedBehind, status_of, IsText, IsSession, IsCaused, CausedBy, HasEntered, NotesOutside, EndsAt, TurnsAway, between}}, pm_startup.declared.phase.Phase.Phase}
 use Rattle.pm_server.specs.pm_admit.declared.Cac.TheVariants as decisions
-use Rattle.pm_once_lives.{specs.pm_child_life.{declared.life.GateNo.GateNo, Life.{Child, Told, nothing_told, Kill, Quit, Terminate, Cancel}}, proofs.QuietLaws.{its_gate, same_gate, never_refused, never_told}}
+use Rattle.pm_once_lives.{specs.pm_child_life.Life.{Child, Told, nothing_told, Kill, Quit, Terminate, Cancel}, proofs.QuietLaws.{its_gate, same_gate, never_refused, never_told}}
 use Rattle.pm_once.specs.Service.{IsOfItself, IsServedAs}
 
 -- ---- its generation
@@ -65,11 +65,11 @@ home_entered : (home : ℕ) (told : Told) (stage : Stage) (generation : ℕ) →
 home_entered home told stage generation (inl outside) entered = subst (λ (s : Stage). HasEntered s home (Some told)) (sym outside) tt
 home_entered home told stage generation (inr same) entered = subst (λ (g : ℕ). HasEntered stage g (Some told)) same entered
 
-home_attached : (ending : Ending) (home generation : ℕ) (child : Child) → IsHome home ending.stage generation → IsAttachedBehind ending generation child → IsAttachedBehind ending home child
-home_attached ending home generation child (inr same) attached = subst (λ (g : ℕ). IsAttachedBehind ending g child) same attached
+home_attached : (ending : Ending) (home generation : ℕ) (child : Child) → IsHome home ending.stage generation → IsAttachedBehind ending generation child.attached → IsAttachedBehind ending home child.attached
+home_attached ending home generation child (inr same) attached = subst (λ (g : ℕ). IsAttachedBehind ending g child.attached) same attached
 home_attached ending home generation child (inl outside) attached =
-    subst (λ (at : Stage). IsAttachedAt at (child.attached ≡ None) (LetsGo ending.exit (child.attached ≡ None) (child.attached ≡ Some home))) (sym outside)
-    (subst (λ (at : Stage). IsAttachedAt at (child.attached ≡ None) (LetsGo ending.exit (child.attached ≡ None) (child.attached ≡ Some generation))) outside attached)
+    subst (λ (at : Stage). ByStage at (child.attached ≡ None) (LetsGo ending.exit (child.attached ≡ None) (child.attached ≡ Some home))) (sym outside)
+    (subst (λ (at : Stage). ByStage at (child.attached ≡ None) (LetsGo ending.exit (child.attached ≡ None) (child.attached ≡ Some generation))) outside attached)
 
 -- ---- by what it ends
 
@@ -106,16 +106,17 @@ as_caused told ending link failed limit gives given by (inr killed) =
 
 -- ---- its turns
 
--- what holds of each that stands between others holds of all
-of_each : {X : Type 0} (P : X → Type 0) (xs front : List X) → ((before : List X) (x : X) (behind : List X) → front ++ xs ≡ before ++ x ∷ behind → P x) → All P xs
-of_each P [] front each = All-nil P
-of_each P (x ∷ xs) front each =
-    All-cons P x xs (each front x xs refl) (of_each P xs (front ++ x ∷ []) (λ before y behind is. each before y behind (sym (append_assoc front (x ∷ []) xs) ∙ is)))
+-- one to which nothing was given has cancelled none
+none_cancelled : (told : Told) → told.given ≡ [] → (from : ℕ) (turns : List Turn) (to : ℕ) → TurnsHeed from turns to told.given → All (λ turn. turn ≢ Cancelled) turns
+none_cancelled told none from [] to heeds = All-nil (λ turn. turn ≢ Cancelled)
+none_cancelled told none from (turn ∷ turns) to (began, over, one, rest) =
+    All-cons (λ (t : Turn). t ≢ Cancelled) turn turns (λ is. (let own = one.cancelled is in never_told Cancel told none (own.0, own.1)))
+    (none_cancelled told none over turns to rest)
 
 -- ---- the whole
 
 pub served_alone : {S : Type 0} (notes : List BookEntry → S → S → Type 0) (before now : S) (has : Bool) (told : Told) (home pid generation key limit : ℕ) (gives : ℕ → Type 0) (ending : Ending) (turns : List Turn) (given back : LinkView)
-    → HasAskedFor turns (Some nothing_told) (Some told) → HeedsTold (status_of ending) told → (child : Child) → IsAttachedBehind ending generation child → HasCancelled ending.cause back.traffic (Some told)
+    → HasAskedFor turns (Some nothing_told) (Some told) → HeedsTold (status_of ending) told → (child : Child) → IsAttachedBehind ending generation child.attached → HasCancelled ending.cause back.traffic (Some told)
     → told.given ≡ [] → told.met ≡ its_gate home has → IsFresh given.traffic → back.number ≡ given.number → given.faults ≤ back.faults
     → IsSession notes decisions.Ok (newcomer (Some home) pid generation) key turns ending (HasFailed given back) (between back.traffic before now)
     → IsCaused ending turns generation decisions.Ok back.traffic (HasFailed given back) (Some told) limit gives
@@ -145,12 +146,11 @@ served_alone notes before now has told home pid generation key limit gives endin
           heeded = caused.heeded;
           sound = caused.sound;
           slept = caused.slept;
-          cancelled = caused.cancelled;
         };
         alone = record {
           cause = of_itself home has told ending.cause back.traffic (HasFailed given back) limit gives none met caused.cause (never_overtaken home pid key turns ending session.came_in session.whole session.noted text);
           exit = as_caused told ending back.traffic (HasFailed given back) limit gives none caused.exit ending.exits;
-          uncancelled = of_each (λ (turn : Turn). IsCancelledTurn turn → ⊥) turns [] (λ front turn behind is cancelled. never_told Cancel told none (caused.cancelled front turn behind is cancelled));
+          uncancelled = none_cancelled told none 0 turns told.asked caused.heeded;
         };
       },
     )

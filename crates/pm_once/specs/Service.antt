@@ -1,11 +1,11 @@
 -- The connections that a server serves, one after another.
-use Rattle.std.specs.Prelude.{◌≡◌, ℕ, ◌≤◌, Bool, true, false, List, [], ◌∷◌, ◌++◌, length, map, All, None, Some, unwrap_or}
+use Rattle.std.specs.Prelude.{◌≡◌, ◌≢◌, ℕ, ◌≤◌, Bool, true, false, List, [], ◌∷◌, ◌++◌, length, map, All, None, Some, unwrap_or}
 use Rattle.pm_session.specs.pm_admit.declared.Cac.TheVariants as decisions
 use Rattle.pm_exit.specs.declared.child.Kind.TheVariants as kinds
 use Rattle.pm_exit.specs.declared.child.Status.{Status}
 use Rattle.pm_exit.specs.declared.child.Status.TheVariants as statuses
 use Rattle.pm_once_lives.specs.pm_child_life.Life.{Child, Told, nothing_told}
-use Rattle.pm_session.specs.{pm_outside.{Traffic.IsFresh, Visits.{Visit, Visits}, Added.Added}, pm_query.{Calls.{User, newcomer}, declared.book.BookEntry.BookEntry}, pm_session_exchange.{Exchange.{LinkView, HasFailed}, Sent.Turn, Queries.IsCancelledTurn, declared.ending.Cause.{Cause, TheVariants.{DecisionRefused, GateRefused, Panicked, ToldToTerminate, ToldToQuit, Killed, Overtaken}}}, Session.{Ending, HasAskedFor, HasCancelled, HeedsTold, IsAttachedBehind, IsSession, IsCaused, between, status_of}}
+use Rattle.pm_session.specs.{pm_outside.{Traffic.IsFresh, Visits.{Visit, Visits}, Added.Added}, pm_query.{Calls.{User, newcomer}, declared.book.BookEntry.BookEntry}, pm_session_exchange.{Exchange.{LinkView, HasFailed}, Sent.{Turn, Cancelled}, declared.ending.Cause.{Cause, TheVariants.{DecisionRefused, GateRefused, Panicked, ToldToTerminate, ToldToQuit, Killed, Overtaken}}}, Session.{Ending, HasAskedFor, HasCancelled, HeedsTold, IsAttachedBehind, IsSession, IsCaused, between, status_of}}
 use Rattle.pm_supervisor_chain.specs.Steps.{ChildRun}
 
 -- One connection: its child's pid and generation, its link as it was given and as it came back, how its queries were answered,
@@ -35,7 +35,7 @@ IsOfItself _ = Unit {0}
 pub record IsAlone (connection : Connection) : Type 0 where
   pub cause : IsOfItself connection.ending.cause
   pub exit : connection.ending.exit ≡ connection.ending.cause
-  pub uncancelled : All (λ turn. ¬ (IsCancelledTurn turn)) connection.turns
+  pub uncancelled : All (λ turn. turn ≢ Cancelled) connection.turns
 
 -- the child as a user of the store
 abbrev pub user_in : Connection → User
@@ -55,7 +55,7 @@ pub record IsServedAs (key limit : ℕ) (gives : ℕ → Type 0) (connection : C
   pub asked : HasAskedFor connection.turns (Some nothing_told) (Some told)
   pub heeded : HeedsTold (status_of connection.ending) told
   pub child : Child
-  pub attached : IsAttachedBehind connection.ending connection.generation child
+  pub attached : IsAttachedBehind connection.ending connection.generation child.attached
   pub cancels : HasCancelled connection.ending.cause connection.back.traffic (Some told)
   pub caused : IsCaused connection.ending connection.turns connection.generation decisions.Ok connection.back.traffic
       (HasFailed connection.given connection.back) (Some told) limit gives

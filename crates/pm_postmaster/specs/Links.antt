@@ -62,7 +62,7 @@ IsBackIn visits mail = BackIn visits.back mail
 
 -- the links that released children gave back came back to the port, as these gave them
 abbrev pub AreBackIn : RosterView MailTold → Visits → Type 0
-AreBackIn d visits = (k : ℕ) (child : PastChild MailTold) → Contains (slot_at d k).past child → IsBackIn visits child.back
+AreBackIn d visits = (k : ℕ) (child : PastChild MailTold) → Contains (slot_at d k).past child → BackIn visits.back child.back
 
 -- As many links were given as connections were accepted, and no more are out than children sit that answer one. What released
 -- children gave back came back to the port.

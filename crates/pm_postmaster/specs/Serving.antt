@@ -68,7 +68,7 @@ last_pid_in limits journal = (all_replayed (replay_begun limits) journal).shown.
 
 -- a server may end so after this journal
 abbrev pub IsEndBehind : Limits → ServerEnd → List PmEvent → Type 0
-IsEndBehind limits end journal = IsEndBy (λ how. EndsWith (entry.Ended how) journal) limits end journal
+IsEndBehind limits end journal = IsEndBy (λ how. (front : List PmEvent) × (journal ≡ front ++ entry.Ended how ∷ [])) limits end journal
 
 -- a startup child came out so that a server ends for this reason, which isn't want of memory
 abbrev pub IsReason : StartWhy → Came → Type 0

@@ -1,8 +1,8 @@
 -- What a stop leaves holds what was acknowledged, and each commit as a whole.
 use Rattle.std.{proofs.{Common.{◌≡◌, ◌⊎◌, inl, inr, ℕ, zero, suc, ◌+◌, ◌-◌, ◌≤◌, ◌<◌, Bool, true, false, cond, ◌||◌, List, [], ◌∷◌, ◌++◌, take, length, Option, None, Some, fold, refl, sym, ap, subst, ◌∙◌, arith, append_assoc, append-nil}, Math.{Logic.∥∥₁_map, Seq.length-take-le}, lemmas.List.Elements.recursion_from_All}, specs.{Prelude.{IfSome, nat_le}, List.{AllByRecursion, list_any}}}
-use Rattle.pm_server.specs.{pm_disk.Files.Files, pm_rows.{Fold.folded, Standing.Standing, declared.commit.Change.Change}, pm_record.Pair.Means, Views.DiskView, Story.{HoldsHistory, IsNoAnswer, KeepsMeaning}}
+use Rattle.pm_server.specs.{pm_disk.Files.Files, pm_rows.{Fold.folded, Standing.{Standing, after}, declared.commit.Change.Change}, pm_record.Pair.Means, Views.DiskView, Story.{HoldsHistory, IsNoAnswer, KeepsMeaning}}
 use Rattle.pm_session_answers.{specs.pm_query.{declared.book.BookEntry.{BookEntry, TheVariants.{Opened, Redone, Attached, Answered, Released, Detached, Gone, CheckpointEnded, Broke, LogFull}}, AtTick.{history_at, is_by, up_to}, Book.{Base, Course, course_after, history_after, history_of, standing_of}, BookLaws.AckedNeverFalls, Durable.{HoldsAcknowledged, IsDurable, IsWithin}, History.{History, beginning, number}}, proofs.HistoryLaws.base_stays}
-use Rattle.pm_promises.specs.{Stops.{AcknowledgedStays, AreSomeOf, IsAsAtFirst, MeansWhole, WholeOrNot, commit_by, commits_in}, Promises.IsBaseOf}
+use Rattle.pm_promises.specs.{Stops.{AcknowledgedStays, AreSomeOf, IsAsAtFirst, WholeOrNot, commit_by, commits_in}, Promises.IsBaseOf}
 
 -- ---- before the first answer
 
@@ -125,7 +125,7 @@ some_along course (entry ∷ book) all is =
     (some_along (course_after course entry) book (all ++ commit_by entry) (some_after course.redone course.history entry all is))
 
 whole_number : AckedNeverFalls → (base : Base) (book : List BookEntry) (image : Files) → HoldsAcknowledged Means (history_of base book) image
-    → ∥ ((commits : List (List Change)) × AreSomeOf commits (commits_in book) × MeansWhole base commits image) ∥₁
+    → ∥ ((commits : List (List Change)) × AreSomeOf commits (commits_in book) × Means image (after (standing_of base) commits)) ∥₁
 whole_number never base book image holds = ∥∥₁_map holds (λ h.
     let history : History = history_of base book in
     let k : ℕ = h.0 - base.count in
@@ -150,7 +150,7 @@ whole_number never base book image holds = ∥∥₁_map holds (λ h.
 pub whole_each : AckedNeverFalls → (base : Base) (book : List BookEntry) (before now : DiskView) → AcknowledgedStays base book before now → WholeOrNot base book before now
 whole_each never base book before now stays t from to image left = by (stays t from to image left) where
   by : HoldsAcknowledged Means (history_at base book t) image ⊎ IsAsAtFirst book before t image
-      → ∥ ((commits : List (List Change)) × AreSomeOf commits (commits_in (up_to t book)) × MeansWhole base commits image) ∥₁ ⊎ IsAsAtFirst book before t image
+      → ∥ ((commits : List (List Change)) × AreSomeOf commits (commits_in (up_to t book)) × Means image (after (standing_of base) commits)) ∥₁ ⊎ IsAsAtFirst book before t image
   by (inl holds) = inl (whole_number never base (up_to t book) image holds)
   by (inr first) = inr first
 

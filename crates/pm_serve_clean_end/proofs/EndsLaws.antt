@@ -1,6 +1,6 @@
 -- Who began in the last generation of a journal, and that each of them has ended.
 use Rattle.std.{proofs.Common.{◌≡◌, ◌⊎◌, inl, inr, ℕ, ◌+◌, ◌≤◌, Bool, true, false, cond, fold, length, map, List, [], ◌∷◌, ◌++◌, refl, sym, ap, subst, ◌∙◌, arith, append_assoc, append-nil}, specs.{Prelude.{is_none, nat_eq}, List.AllByRecursion}}
-use Rattle.pm_serve_crew.specs.{pm_exit.declared.child.{Kind.Kind, Status.Status}, pm_supervisor.{Children.{Child, without}, Steps.shared_after, Supervisor.Shared}, pm_state.{declared.{action.Action.Action, event.PmEvent.PmEvent}, Journal.{AreLegal, Do, Due, EndRedo, Fits, FitsFirst, Follows, FollowsIn, Replay, all_replayed, replayed}}, pm_supervisor_chain.Chain.resets_of, pm_board_acts.Seating.{Begun, begins}}
+use Rattle.pm_serve_crew.specs.{pm_exit.declared.child.{Kind.Kind, Status.Status}, pm_supervisor.{Children.{Child, without}, Shared.reopened, Supervisor.Shared}, pm_state.{declared.{action.Action.Action, event.PmEvent.PmEvent}, Journal.{AreLegal, Do, Due, EndRedo, Fits, FitsFirst, Follows, FollowsIn, Replay, all_replayed, replayed}}, pm_supervisor_chain.Chain.resets_of, pm_board_acts.Seating.{Begun, begins}}
 use Rattle.pm_serve_crew.specs.pm_supervisor.Steps as supervisor
 use Rattle.pm_serve_crew.specs.pm_state.declared.action.Action.TheVariants as act
 use Rattle.pm_serve_crew.specs.pm_state.declared.event.PmEvent.TheVariants as entry
@@ -24,7 +24,7 @@ IsNoReset _ = Unit {0}
 abbrev NoResets : List PmEvent → Type 0
 NoResets journal = AllByRecursion IsNoReset journal
 
-open_same : (s : Shared) (opens : Bool) → (shared_after s (supervisor.RedoEnded opens)).generation ≡ s.generation
+open_same : (s : Shared) (opens : Bool) → (reopened opens s).generation ≡ s.generation
 open_same s true = refl
 open_same s false = refl
 
@@ -144,7 +144,7 @@ stays_there pid other (c ∷ cs) differ there = by (nat_eq c.pid other) refl (λ
     by false is more (inl same) = inl same
     by false is more (inr there) = inr (more there)
 
-children_same : (s : Shared) (opens : Bool) → (shared_after s (supervisor.RedoEnded opens)).children ≡ s.children
+children_same : (s : Shared) (opens : Bool) → (reopened opens s).children ≡ s.children
 children_same s true = refl
 children_same s false = refl
 

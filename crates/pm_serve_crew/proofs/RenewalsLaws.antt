@@ -1,14 +1,14 @@
 -- Who is gone was attached just before, or was lost.
-use Rattle.std.{proofs.{Common.{◌≡◌, ◌⊎◌, inl, inr, ℕ, zero, suc, ◌≤◌, Bool, true, false, cond, List, [], ◌∷◌, ◌++◌, length, refl, sym, ap, subst, ◌∙◌, arith, eq-eqb}, lemmas.List.Sums.{fold-append, sum_by-append, sum_by-cons}}, specs.Prelude.nat_eq}
+use Rattle.std.{proofs.{Common.{◌≡◌, ◌⊎◌, inl, inr, ℕ, zero, suc, ◌≤◌, Bool, true, false, cond, List, [], ◌∷◌, ◌++◌, length, refl, sym, ap, subst, ◌∙◌, arith, eq-eqb}, lemmas.List.Sums.{fold-append, sum_by-append, sum_by-cons}}, specs.Prelude.{nat_eq, slice_index_or}}
 use Rattle.pm_session_answers.specs.pm_query.{declared.book.BookEntry.{BookEntry, TheVariants.{Opened, Gone}}, Book.{IsAttached, times_after, times_attached}}
 use Rattle.pm_board_acts.specs.pm_supervisor_chain.Chain.{opened_of}
 use Rattle.pm_store_shared.specs.{pm_segment.{Children.{once, times_in}, Renewal.renewal}, declared.views.Noted.Noted, Log.{all_behind, entries_of}, Renewed.{AreApart, AreAttached}}
-use Rattle.pm_serve_crew.specs.Renewals.{IsLost, WasInside, WereInside, lost_behind}
+use Rattle.pm_serve_crew.specs.Renewals.{WasInside, WereInside, lost_behind}
 
 -- ---- where more are lost later
 
-lost_more : (pid : ℕ) (lost more : List (List ℕ)) → IsLost pid lost → IsLost pid (lost ++ more)
-lost_more pid [] more is = absurd is
+lost_more : (pid : ℕ) (lost more : List (List ℕ)) → 1 ≤ times_in pid (slice_index_or lost 0 []) → 1 ≤ times_in pid (slice_index_or (lost ++ more) 0 [])
+lost_more pid [] more is = absurd (omega (arith, is))
 lost_more pid (those ∷ lost) more is = is
 
 was_more : (entry : BookEntry) (attached : ℕ) (lost more : List (List ℕ)) → WasInside entry attached lost → WasInside entry attached (lost ++ more)

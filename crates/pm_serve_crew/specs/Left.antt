@@ -3,7 +3,7 @@ use Rattle.std.specs.{Prelude.{◌≡◌, ◌<◌, ◌≤◌, ℕ, List, map, Op
 use Rattle.pm_board_acts.specs.{pm_board.{declared.views.{PostNotes.PostNotes, RosterView.RosterView, Sight.TheVariants.Gathered}, Heard.HeardAsSent, Places.slot_at}, pm_exit.declared.child.Kind.TheVariants.Startup, pm_worker.{declared.mail.MailTold.MailTold, Runs.{IsRun, Run, noted_by}}}
 use Rattle.pm_board_acts.specs.pm_worker.declared.mail.MailTold.TheVariants as mail
 use Rattle.pm_session_answers.specs.pm_query.{declared.{book.BookEntry.BookEntry, store.StoreNo.TheVariants.Redo}, Book.generation_of}
-use Rattle.pm_store_shared.specs.{pm_disk.Files.Files, pm_record.declared.fault.RedoFault.RedoFault, declared.views.Noted.Noted, Log.{IsShuffle, entries_of}, Places.EachOnce, Learned.IsUnread}
+use Rattle.pm_store_shared.specs.{pm_disk.Files.Files, pm_record.declared.fault.RedoFault.RedoFault, declared.views.Noted.Noted, Log.{IsShuffle, entries_of}, Learned.IsUnread}
 
 -- What the workers go by: the seed of their keys, the limit of authentication, the moments that their clocks give, and the files that
 -- their store was handed.
@@ -41,6 +41,5 @@ pub record AreLeft (manner : Manner) (count : ℕ) (d : RosterView MailTold) (ow
   pub all : length lists ≡ count
   pub each : (k : ℕ) (noted : List Noted) → slice_get lists k ≡ Some noted → IsWorked manner d k (runs k) noted
   pub shuffle : IsShuffle count lists own book
-  pub once : EachOnce lists own book
   pub sent : HeardAsSent d
   pub borne_out : (k : ℕ) → k < count → AllByRecursion (IsBorneOut manner.files book) (runs k)

@@ -1,5 +1,5 @@
 -- Whom the supervisor gave up before each generation that it began.
-use Rattle.std.specs.Prelude.{◌≡◌, ◌⊎◌, ◌≤◌, ℕ, List, [], ◌∷◌, ◌++◌}
+use Rattle.std.specs.Prelude.{◌≡◌, ◌⊎◌, ◌≤◌, ℕ, List, [], ◌∷◌, ◌++◌, slice_index_or}
 use Rattle.pm_session_answers.specs.pm_query.declared.book.BookEntry.{BookEntry, TheVariants.{Opened, Gone}}
 use Rattle.pm_board_acts.specs.{pm_state.declared.event.PmEvent.PmEvent, pm_supervisor_chain.Chain.{AgreeOnGenerations, gone_from, lost_from}}
 use Rattle.pm_store_shared.specs.{pm_segment.Children.times_in, declared.views.Noted.Noted, Log.entries_of, Renewed.AreApart}
@@ -16,14 +16,9 @@ EachBeginsSo [] lost = Unit {0}
 EachBeginsSo (pids ∷ gone) [] = ⊥
 EachBeginsSo (pids ∷ gone) (those ∷ lost) = BeginsWithThose pids those × EachBeginsSo gone lost
 
--- the child is among the first of these, who were lost in the generation that ends next
-abbrev pub IsLost : ℕ → (lost : List (List ℕ)) → Type 0
-IsLost pid [] = ⊥
-IsLost pid (those ∷ lost) = 1 ≤ times_in pid those
-
 -- the child that is gone by this entry was attached, so often, or it was lost
 abbrev pub WasInside : BookEntry → (attached : ℕ) → (lost : List (List ℕ)) → Type 0
-WasInside (Gone pid) attached lost = (1 ≤ attached) ⊎ IsLost pid lost
+WasInside (Gone pid) attached lost = (1 ≤ attached) ⊎ (1 ≤ times_in pid (slice_index_or lost 0 []))
 WasInside _ attached lost = Unit {0}
 
 -- who was lost after this entry

@@ -1,13 +1,14 @@
 -- The laws: the first crash of a server's journal has a cause, and a server that ends after a crash has had one.
-use Rattle.std.{proofs.{Common.{◌≡◌, ◌⊎◌, inl, inr, ℕ, ◌+◌, ◌<◌, ◌≤◌, Bool, true, false, not, cond, ◌&&◌, ◌||◌, List, [], ◌∷◌, ◌++◌, Option, refl, sym, ap, subst, ◌∙◌, arith, append_assoc}, lemmas.{Bool.{both_ways, false≢true, true≢false}, List.Elements.recursion_from_All}}, specs.{Prelude.is_some, List.{AllByRecursion, fold}}}
-use Rattle.pm_serve_crew.{specs.{pm_facts.Lists.{each_first, each_last}, pm_exit.{declared.child.{Kind.Kind, Status.TheVariants.Code}, Ends.{is_exit_0, is_exit_1}}, pm_supervisor.{declared.{Limits.Limits, Reason.{Reason, TheVariants.{Crash, Stop}}}, Steps.is_normal}, pm_state.{declared.{action.Action.Action, event.PmEvent.PmEvent, machine.Machine.Machine}, Exits.is_shutdown, Laws.RestartsSafely, Promises.{has_act, is_ask_checkpoint, is_terminate}, Journal.{IsLegal, Replay, all_replayed, replay_begun}}, pm_child_life.Life.{Checkpoint, Quit, Told, was_told}, pm_supervisor_journal.Stands.any_moment, pm_board.{declared.views.{RosterStep.RosterStep, RosterView.RosterView}, Heard.IsKnownAtLast, Latches.{HeardRightly, NoticedBefore, doings_of, times_given, times_sent}}, pm_query.declared.book.BookEntry.{BookEntry, TheVariants.Broke}, pm_segment.{Moves.IsShown, Unread.is_break}, pm_board_acts.Seating.{Ended, Move, Notes, Seating, board_steps, empty, entries_from, journal_of, seating_by, seating_from, seating_of, steps_from}, pm_store_shared.declared.views.Noted.Noted, pm_worker.{declared.mail.MailTold.MailTold, Runs.told_in}, Left.Manner, pm_supervisor_chain.Chain.IsPidOf}, proofs.{pm_board.BoardLaws.sent-append, pm_board_acts.FoldingLaws.{seating-append, steps-append}, PidsLaws.pids_in}}
+use Rattle.std.{proofs.{Common.{◌≡◌, ◌⊎◌, inl, inr, ℕ, ◌+◌, ◌<◌, ◌≤◌, Bool, true, false, not, cond, ◌&&◌, ◌||◌, List, [], ◌∷◌, ◌++◌, Option, None, Some, Err, refl, sym, ap, subst, ◌∙◌, arith, append_assoc}, lemmas.{Bool.{both_ways, false≢true, true≢false}, List.Elements.recursion_from_All}}, specs.{Prelude.is_some, List.{AllByRecursion, fold}}}
+use Rattle.pm_serve_crew.{specs.{pm_facts.Lists.{each_first, each_last}, pm_exit.{declared.child.{Kind.Kind, Status.TheVariants.Code}, Ends.{is_exit_0, is_exit_1}}, pm_supervisor.{declared.{Limits.Limits, Reason.{Reason, TheVariants.{Crash, Stop}}}, Steps.is_normal}, pm_state.{declared.{action.Action.Action, event.PmEvent.PmEvent, machine.Machine.Machine}, Exits.is_shutdown, Laws.RestartsSafely, Promises.{has_act, is_ask_checkpoint, is_terminate}, Journal.{IsLegal, Replay, all_replayed, replay_begun}}, pm_child_life.Life.{Checkpoint, Quit, Told, was_told}, pm_supervisor_journal.Stands.any_moment, pm_board.{declared.views.{Offer.Offer, RosterStep.RosterStep, RosterView.RosterView}, Gate.first_gate, Heard.IsKnownAtLast, Latches.{AnsweredBefore, HeardRightly, doings_of, times_given, times_sent}}, pm_query.declared.book.BookEntry.{BookEntry, TheVariants.Broke}, pm_segment.{Moves.IsShown, Unread.is_break}, pm_board_acts.Seating.{Ended, Move, Notes, Seating, board_steps, empty, entries_from, journal_of, seating_by, seating_from, seating_of, steps_from}, pm_store_shared.declared.views.Noted.Noted, pm_worker.{declared.mail.MailTold.MailTold, Runs.told_in}, Left.Manner, pm_supervisor_chain.Chain.IsPidOf}, proofs.{pm_board.BoardLaws.sent-append, pm_board_acts.FoldingLaws.{seating-append, steps-append}, PidsLaws.pids_in}}
 use Rattle.pm_store_remains.{specs.{pm_disk.Cause.Rose, pm_server.Views.DiskView, Remains.Remains}, proofs.{pm_state.ReplayLaws.{acts_in, ends_at, legal_behind, legal_front}, pm_server.CalmLaws.{is_closing, shuts}}}
+use Rattle.pm_serve_crew.specs.pm_child_life.declared.life.GateNo.TheVariants as gate_no
 use Rattle.pm_serve_crew.specs.pm_exit.declared.child.Class.TheVariants as class
 use Rattle.pm_serve_crew.specs.pm_exit.declared.child.Kind.TheVariants as kinds
 use Rattle.pm_serve_crew.specs.pm_state.declared.event.PmEvent.TheVariants as entry
 use Rattle.pm_serve_crew.specs.pm_board.declared.views.RosterStep.TheVariants as step
 use Rattle.pm_supervisor_crashes.{specs.Crashes.{HasNoCrash, IsFirstCrash, IsHarmless, IsUnasked, is_crash, stands_behind}, proofs.FirstLaws.{FirstFrom, first_or_none, no_crash_more}}
-use Rattle.pm_serve_first_crash.{specs.Causes.{HasCause, IsBlamed, IsUnbroken, IsUnprovoked}, proofs.{CalmLaws.{IsCalm, SoFar, nothing_so_far, told_after}, JournalLaws.{StaysCalm, checkpointer_there, never_again, stays_calm}, RunsLaws.{Outcome, EndedFine, WasKilled, WasToldToQuit, MetNotice, GaveUp, DiskFailed, HadNoRedo, WasShort, WasSpent, FoundOther, IsFineAs, outcome}, GivenLaws.{checkpoint_given, kill_given, number_of, quit_given, terminate_given}, SendsLaws.{SitsNowhere, final_sends, may_send, not_noticed, nowhere_from, quiet, unreached, unsent}, FindLaws.{IsKnownRun, NotedAt, RunOf, gone, its_run, near, noted_at}}}
+use Rattle.pm_serve_first_crash.{specs.Causes.{HasCause, IsBlamed, IsUnbroken, IsUnprovoked}, proofs.{CalmLaws.{IsCalm, SoFar, nothing_so_far, told_after}, JournalLaws.{StaysCalm, checkpointer_there, never_again, stays_calm}, RunsLaws.{Outcome, EndedFine, WasKilled, WasToldToQuit, MetNotice, GaveUp, DiskFailed, HadNoRedo, WasShort, WasSpent, FoundOther, IsFineAs, outcome}, GivenLaws.{checkpoint_given, kill_given, number_of, quit_given, terminate_given}, SendsLaws.{SitsNowhere, final_sends, may_send, nowhere_from, quiet, quiet_before, quiet_gate, unreached, unsent}, FindLaws.{IsKnownRun, NotedAt, RunOf, gone, its_run, near, noted_at}}}
 
 -- ---- which signals were sent before the first crash
 
@@ -214,10 +215,11 @@ module _ (safely : RestartsSafely) (limits : Limits) (manner : Manner) (count : 
     unquit Stop = sent 1 (no_quits Stop first.before calm.harmless)
 
     -- nor met a notice at the gate
-    unnoticed : (reason : Reason) (generation : ℕ) → NoticedBefore board.notes.steps end.pid reason generation → ⊥
-    unnoticed reason generation (before, after, is, none) =
-        not_noticed front_steps end.pid end.kind behind_front.generation (rest_steps ++ u.board_is.last) before after reason generation (sym steps ∙ is)
-        (quiet (empty count) found.front (subst (AllByRecursion IsHarmless) (sym found.front_is) calm.harmless)) none
+    unnoticed : (o : Offer MailTold) (reason : Reason) (generation : ℕ) → AnsweredBefore (doings_of board) (record o { pid = end.pid }) (Err (gate_no.Quit generation reason)) → ⊥
+    unnoticed o reason generation (before, after, is, there, own, answer) =
+        let before_quiet = quiet_before front_steps end.pid end.kind behind_front.generation (rest_steps ++ u.board_is.last) before after (sym steps ∙ is)
+        (quiet (empty count) found.front (subst (AllByRecursion IsHarmless) (sym found.front_is) calm.harmless)) there.1 in
+        absurd (let never : ◌≡◌ {A = Option Reason} None (Some reason) = sym (quiet_gate first_gate before before_quiet refl) ∙ answer.1 in cc)
 
     fine_never : is_crash m e ≡ false → ⊥
     fine_never fine = both_ways (is_crash m e) fine first.crash
@@ -242,7 +244,7 @@ module _ (safely : RestartsSafely) (limits : Limits) (manner : Manner) (count : 
     blame (WasToldToQuit reason told) =
         (let some : 0 < times_sent (number_of (Quit reason)) end.pid board.notes.steps = was_sent (number_of (Quit reason)) (quit_given reason its.run.heard its.run.asked told) in
         absurd (omega (arith, some, unquit reason)))
-    blame (MetNotice generation reason met_it) = absurd (unnoticed reason its.run.child.offer.generation (heard.met generation reason met_it).1)
+    blame (MetNotice generation reason met_it) = absurd (unnoticed its.run.child.offer reason generation (heard.shown (Err (gate_no.Quit generation reason)) met_it))
     blame (GaveUp kind status told) =
         absurd (fine_never (gave_up end m at (sym (ap (λ (x : Ended). x.kind) its.ended) ∙ kind) (sym (ap (λ (x : Ended). x.status) its.ended) ∙ status)
         (asked (was_sent 2 (terminate_given its.run.heard its.run.asked told)))))

@@ -1,6 +1,6 @@
 -- Before its first crash a whole journal is calm, and who is there was begun before.
 use Rattle.std.{proofs.{Common.{◌≡◌, ◌⊎◌, inl, inr, ℕ, ◌≤◌, Bool, true, false, cond, ◌&&◌, List, [], ◌∷◌, ◌++◌, refl, sym, ap, arith}, lemmas.Bool.eqb-true}, specs.{Prelude.{IsSomeAnd, Some, is_none, nat_eq}, List.{AllByRecursion, fold}}}
-use Rattle.pm_serve_crew.{specs.{pm_exit.{declared.child.{Kind.Kind, Status.Status}, Ends.is_exit_0}, pm_modes.Strength.strengthen_of, pm_supervisor.{declared.Limits.Limits, Children.{Child, child_of, count_of, is_checkpointer, is_startup_child, without}, Steps.shared_after}, pm_state.{declared.{action.Action.Action, event.PmEvent.PmEvent}, Laws.RestartsSafely, Machine.{Exited, begun, step}, Requests.asked_with, Restarts.Counts, TurnRules.is_not_running, Journal.{AreLegal, Follows, IsLegal, MayCome, Replay, all_replayed, caused, dues_after, replay_begun, replayed, reported}}, pm_supervisor_chain.Chain.IsPidOf}, proofs.PidsLaws.{RiseAbove, pid_either, pids_by, pids_below, pids_in, pids_rise}}
+use Rattle.pm_serve_crew.{specs.{pm_exit.{declared.child.{Kind.Kind, Status.Status}, Ends.is_exit_0}, pm_modes.Strength.strengthen_of, pm_supervisor.{declared.Limits.Limits, Children.{Child, child_of, count_of, is_checkpointer, is_startup_child, without}, Shared.reopened}, pm_state.{declared.{action.Action.Action, event.PmEvent.PmEvent}, Laws.RestartsSafely, Machine.{Exited, begun, step}, Requests.asked_with, Restarts.Counts, TurnRules.is_not_running, Journal.{AreLegal, Follows, IsLegal, MayCome, Replay, all_replayed, caused, dues_after, replay_begun, replayed, reported}}, pm_supervisor_chain.Chain.IsPidOf}, proofs.PidsLaws.{RiseAbove, pid_either, pids_by, pids_below, pids_in, pids_rise}}
 use Rattle.pm_serve_crew.specs.pm_exit.declared.child.Kind.TheVariants as kind
 use Rattle.pm_serve_crew.specs.pm_supervisor.Steps as supervisor
 use Rattle.pm_serve_crew.specs.pm_state.declared.event.PmEvent.TheVariants as entry
@@ -110,7 +110,7 @@ there_by pid r (entry.Accepted other decision) (inr later) = inl later
 there_by pid r (entry.Exited other k status was_active at) there = inl (there_without pid other r.shown.children there)
 there_by pid r (entry.RedoEnded generation kept) there = inl (same (is_none r.machine.shutdown) there)
   where
-    same : (opens : Bool) → IsThere pid (shared_after r.shown (supervisor.RedoEnded opens)).children → IsThere pid r.shown.children
+    same : (opens : Bool) → IsThere pid (reopened opens r.shown).children → IsThere pid r.shown.children
     same true its = its
     same false its = its
 there_by pid r (entry.Asked mode at) there = inl there

@@ -1,7 +1,7 @@
 -- What a run of a child came to: it ended as it should, or by one of these causes.
 use Rattle.std.{proofs.Common.{◌≡◌, ◌⊎◌, inl, inr, ℕ, Bool, true, false, ◌||◌, List, [], ◌∷◌, ◌++◌, Option, Some, None, Result, Ok, Err, refl, sym, ap, subst, ◌∙◌}, specs.Prelude.is_some}
 use Rattle.pm_store_remains.specs.pm_disk.Cause.{Rose}
-use Rattle.pm_serve_crew.specs.{pm_exit.{declared.child.{Kind.Kind, Status.{Status, TheVariants.{Code, Signal}}}, Ends.{is_exit_0, is_exit_1}}, pm_admit.declared.Cac.Cac, pm_supervisor.{declared.Reason.Reason, Children.is_session}, pm_child_life.{declared.life.GateNo.GateNo, Life.{Told, Kill, Quit, Terminate, Checkpoint, was_told}}, pm_query.{declared.{book.BookEntry.{BookEntry, TheVariants.{Attached, Broke}}, store.StoreNo.{StoreNo, TheVariants.{Stale, Disk, Broken, Full, Redo, NoMemory}}}, Calls.{User, NotesFault}}, pm_session_exchange.{declared.ending.{Cause.Cause as SessionCause, Stage.{Stage, TheVariants.{Outside, Entering, Greeted}}}, Ends.{LetsGo, status_by as session_status}, Sent.Turn}, pm_session.Session.{CausedBy, Ending, EndsAt, IsAttachedAt, IsText, TurnsAway}, pm_aux.{declared.{aux_done.AuxDone.AuxDone, cause.AuxiliaryEnd.{AuxiliaryEnd, TheVariants.{Redone, Flushed, Closed, LeftOut, Refused, TurnedAway, ToldToTerminate, ToldToQuit, Killed}}}, Ends.{IsMetBehind, fault_by, kept_by, status_by}, Runs.{EndsOutside, MayBeShort, NotesBehind, Runner, user_in}, Signals.IsToldTo, Work.{HasEntered, IsKeptOut}}, pm_board.Places.is_connection, pm_worker.{declared.mail.{LinkTold.LinkTold, MailTold.MailTold}, Mails.{IsFor, traffic_in}, Runs.{Does, IsAuxRun, IsRun, IsSessionRun, Run, close_run, told_in}}, pm_board_life.Lives.MetRightly, Left.Manner}
+use Rattle.pm_serve_crew.specs.{pm_exit.{declared.child.{Kind.Kind, Status.{Status, TheVariants.{Code, Signal}}}, Ends.{is_exit_0, is_exit_1}}, pm_admit.declared.Cac.Cac, pm_supervisor.{declared.Reason.Reason, Children.is_session}, pm_child_life.{declared.life.GateNo.GateNo, Life.{Told, Kill, Quit, Terminate, Checkpoint, was_told}}, pm_query.{declared.{book.BookEntry.{BookEntry, TheVariants.{Attached, Broke}}, store.StoreNo.{StoreNo, TheVariants.{Stale, Disk, Broken, Full, Redo, NoMemory}}}, Calls.{User, NotesFault}}, pm_session_exchange.{declared.ending.{Cause.Cause as SessionCause, Stage.{Stage, TheVariants.{Outside, Entering, Greeted}}}, Ends.{LetsGo, status_by as session_status}, Sent.Turn}, pm_session.Session.{CausedBy, Ending, EndsAt, ByStage, IsText, TurnsAway}, pm_aux.{declared.{aux_done.AuxDone.AuxDone, cause.AuxiliaryEnd.{AuxiliaryEnd, TheVariants.{Redone, Flushed, Closed, LeftOut, Refused, TurnedAway, ToldToTerminate, ToldToQuit, Killed}}}, Ends.{IsMetBehind, fault_by, kept_by, status_by}, Runs.{EndsOutside, MayBeShort, NotesBehind, Runner, user_in}, Signals.IsToldTo, Work.{HasEntered, IsKeptOut}}, pm_board.Places.is_connection, pm_worker.{declared.mail.{LinkTold.LinkTold, MailTold.MailTold}, Mails.{IsFor, traffic_in}, Runs.{Does, IsAuxRun, IsRun, IsSessionRun, Run, close_run, told_in}}, pm_board_life.Lives.MetRightly, Left.Manner}
 use Rattle.pm_serve_crew.specs.pm_exit.declared.child.Kind.TheVariants as kinds
 use Rattle.pm_serve_crew.specs.pm_child_life.declared.life.GateNo.TheVariants as gate_no
 use Rattle.pm_store_remains.specs.pm_record.declared.fault.RedoFault.TheVariants as redo
@@ -57,7 +57,7 @@ breaks_within xs ys zs noted is breaks = subst Breaks (sym is) (breaks_front (xs
 -- ---- a session
 
 -- of a child that isn't attached at either stage
-lets_go : (stage : Stage) (A : Type 0) → IsAttachedAt stage A A → A
+lets_go : (stage : Stage) (A : Type 0) → ByStage stage A A → A
 lets_go Outside A a = a
 lets_go Entering A a = a
 lets_go Greeted A a = a
@@ -92,7 +92,7 @@ module _ (manner : Manner) (run : Run) where
   of_exit : (link : LinkTold) (decision : Cac) (is : IsSessionRun None manner.seed manner.limit manner.gives link decision run) → is_connection run.child.offer.kind ≡ true
       → (exit : SessionCause) → is.ending.exit ≡ exit → run.child.status ≡ session_status exit
       → CausedBy exit decision (traffic_in is.back) (Rose link.faults is.back.faults) (Some (told_in run)) manner.limit manner.gives
-      → IsAttachedAt is.ending.stage (is.attached ≡ None) (LetsGo exit (is.attached ≡ None) (is.attached ≡ Some is.generation)) → Comes
+      → ByStage is.ending.stage (is.attached ≡ None) (LetsGo exit (is.attached ≡ None) (is.attached ≡ Some is.generation)) → Comes
   of_exit link decision is its why.Killed exit status caused at = WasKilled status caused
   of_exit link decision is its (why.ToldToQuit reason) exit status caused at = WasToldToQuit reason caused
   of_exit link decision is its why.Overtaken exit status caused at =

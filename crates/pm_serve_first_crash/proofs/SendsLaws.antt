@@ -1,6 +1,6 @@
 -- Which signals the moves of a supervisor send to a child, and whom they reach.
 use Rattle.std.{proofs.{Common.{◌≡◌, ◌≢◌, ◌⊎◌, inl, inr, ℕ, zero, suc, ◌+◌, ◌<◌, Bool, true, false, cond, List, [], ◌∷◌, ◌++◌, Option, None, Some, length, refl, sym, ap, subst, ◌∙◌, arith, set}, lemmas.Bool.ne_eqb}, specs.{Prelude.{IfSome, nat_eq, ◌&&◌}, List.{AllByRecursion, flat_map}}}
-use Rattle.pm_serve_crew.{specs.{pm_facts.Lists.{each_both, each_first, each_second}, pm_exit.declared.child.Kind.Kind, pm_supervisor.{declared.Reason.Reason, Steps.kind_for}, pm_state.declared.event.PmEvent.PmEvent, pm_board.{declared.views.{RosterStep.RosterStep, Signal.Signal}, Latch.signal_number, Latches.{NotReleased, times_sent}, Words.bit}, pm_supervisor_chain.Chain.IsPidOf, pm_supervisor_journal.declared.roll.Enrolled.Enrolled, pm_board_acts.{declared.audience.Audience.{Audience, TheVariants.{Everyone, Stoppable, Checkpointer, One}}, Board.seat_at, Seating.{Move, Notes, PidsEnd, PortEnds, Reads, Seating, begun_by, begun_from, child, entries_by, entries_from, is_meant, seated, seating_by, seating_from, with_seat, Begun, sends_from, slot_in, steps_by, steps_from, steps_of}, Standing.IsFinal}}, proofs.{pm_board.BoardLaws.sent-append, PidsLaws.{begun_pids, pid_either, pids_append, pids_by, pids_in}}}
+use Rattle.pm_serve_crew.{specs.{pm_facts.Lists.{each_both, each_first, each_second}, pm_exit.declared.child.Kind.Kind, pm_supervisor.{declared.Reason.Reason, Steps.kind_for}, pm_state.declared.event.PmEvent.PmEvent, pm_board.{declared.views.{RosterStep.RosterStep, Signal.Signal}, Gate.{Gate, gate_after, gate_of_steps}, Latch.signal_number, Latches.{NotReleased, times_sent}, Words.bit}, pm_supervisor_chain.Chain.IsPidOf, pm_supervisor_journal.declared.roll.Enrolled.Enrolled, pm_board_acts.{declared.audience.Audience.{Audience, TheVariants.{Everyone, Stoppable, Checkpointer, One}}, Board.seat_at, Seating.{Move, Notes, PidsEnd, PortEnds, Reads, Seating, begun_by, begun_from, child, entries_by, entries_from, is_meant, seated, seating_by, seating_from, with_seat, Begun, sends_from, slot_in, steps_by, steps_from, steps_of}, Standing.IsFinal}}, proofs.{pm_board.BoardLaws.sent-append, PidsLaws.{begun_pids, pid_either, pids_append, pids_by, pids_in}}}
 use Rattle.pm_serve_crew.specs.pm_state.declared.event.PmEvent.TheVariants as entry
 use Rattle.pm_serve_crew.specs.pm_board.declared.views.RosterStep.TheVariants as step
 use Rattle.pm_serve_crew.specs.pm_board.declared.views.Signal.TheVariants as signal
@@ -289,16 +289,23 @@ tail_of : List RosterStep → List RosterStep
 tail_of [] = []
 tail_of (x ∷ xs) = xs
 
--- the child was released before any notice was given
-pub not_noticed : (front : List RosterStep) (pid : ℕ) (kind : Kind) (g : ℕ) (rest before after : List RosterStep) (why : Reason) (generation : ℕ)
-    → front ++ step.Release pid kind g ∷ rest ≡ before ++ step.Quit why generation ∷ after → AreQuiet front → NotReleased pid before → ⊥
+-- what stands in front of a child's release gives no notice, where nothing up to that release does
+pub quiet_before : (front : List RosterStep) (pid : ℕ) (kind : Kind) (g : ℕ) (rest before after : List RosterStep)
+    → front ++ step.Release pid kind g ∷ rest ≡ before ++ after → AreQuiet front → NotReleased pid before → AreQuiet before
 unfolding head_of tail_of
-not_noticed [] pid kind g rest [] after why generation is quiet none =
-    absurd (let never : step.Release pid kind g ≡ step.Quit why generation = ap (head_of (step.Release pid kind g)) is in cc)
-not_noticed [] pid kind g rest (x ∷ before) after why generation is quiet none =
-    none kind g (0, (let near : 0 < length (x ∷ before) = omega arith in near), sym (ap (head_of (step.Release pid kind g)) is))
-not_noticed (x ∷ front) pid kind g rest [] after why generation is quiet none =
-    absurd (let never : true ≡ false = sym (ap is_notice (ap (head_of x) is)) ∙ quiet.0 in cc)
-not_noticed (x ∷ front) pid kind g rest (y ∷ before) after why generation is quiet none =
-    not_noticed front pid kind g rest before after why generation (ap tail_of is) quiet.1
-    (λ other gen there. none other gen (suc there.0, (let near : there.0 < length before = there.1 in omega arith), there.2))
+quiet_before front pid kind g rest [] after is quiet none = tt
+quiet_before [] pid kind g rest (x ∷ before) after is quiet none =
+    absurd (none kind g (0, (let near : 0 < length (x ∷ before) = omega arith in near), sym (ap (head_of (step.Release pid kind g)) is)))
+quiet_before (x ∷ front) pid kind g rest (y ∷ before) after is quiet none = (
+  subst (λ (z : RosterStep). is_notice z ≡ false) (ap (head_of x) is) quiet.0,
+  quiet_before front pid kind g rest before after (ap tail_of is) quiet.1
+      (λ other gen there. none other gen (suc there.0, (let near : there.0 < length before = there.1 in omega arith), there.2)),
+)
+
+-- and leaves the gate without one
+pub quiet_gate : (gate : Gate) (steps : List RosterStep) → AreQuiet steps → gate.noticed ≡ None → (gate_of_steps gate steps).noticed ≡ None
+quiet_gate gate [] quiet none = none
+quiet_gate gate (step.Quit why g ∷ steps) quiet none = absurd (let never : true ≡ false = quiet.0 in cc)
+quiet_gate gate (step.Ready g ∷ steps) quiet none = quiet_gate (gate_after gate (step.Ready g)) steps quiet.1 refl
+quiet_gate gate (step.Reset g ∷ steps) quiet none = quiet_gate (gate_after gate (step.Reset g)) steps quiet.1 refl
+quiet_gate gate (_ ∷ steps) quiet none = quiet_gate gate steps quiet.1 none

@@ -25,7 +25,6 @@ module _ {F : Type 0} (R : F → List BookEntry → Type 0) (manner : Manner) (n
         all = length-map a.joined (λ (his : Joined). his.own) ∙ a.all;
         each = λ k own at. each k own (owned_at a.joined k own at);
         shuffle = shuffle;
-        once = once;
         sent = a.sent;
         borne_out = λ k near. borne k near;
       }

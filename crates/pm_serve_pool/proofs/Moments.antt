@@ -1,7 +1,7 @@
 -- A run by the moments of one clock is one by those of a clock that gives them all.
 use Rattle.std.{proofs.Common.{ℕ, List, [], ◌∷◌}, specs.{Prelude.{Option, None, Some, IfSome}, List.AllByRecursion}}
 use Rattle.pm_serve_crew.specs.{pm_admit.declared.Cac.Cac, pm_worker.{declared.mail.{LinkTold.LinkTold, MailTold.MailTold}, Runs.{Does, IsRun, IsSessionRun, Run}}}
-use Rattle.pm_session.specs.{pm_child_life.Life.Told, pm_outside.Traffic.Traffic, pm_sql.declared.stmt.Stmt.Stmt, pm_session_exchange.{declared.ending.Cause.{Cause, TheVariants.TimedOut}, Sent.{Turn, Ran, LogIsFull}, Queries.{HasSleptFor, HasWaited, Sleeps}}, Session.{AllSleep, CausedBy, Ending, HasSlept, IsApart, IsCaused}}
+use Rattle.pm_session.specs.{pm_child_life.Life.Told, pm_outside.Traffic.Traffic, pm_session_exchange.{declared.ending.Cause.{Cause, TheVariants.TimedOut}, Sent.Turn, Queries.{HasWaited, Sleeps}}, Session.{AllSleep, CausedBy, Ending, HasSlept, IsApart, IsCaused}}
 use Rattle.pm_serve_crew.specs.pm_worker.declared.mail.MailTold.TheVariants as mail
 
 module _ {gives more : ℕ → Type 0} (on : (moment : ℕ) → gives moment → more moment) where
@@ -11,15 +11,8 @@ module _ {gives more : ℕ → Type 0} (on : (moment : ℕ) → gives moment →
   apart_by : (limit : ℕ) → IsApart gives limit → IsApart more limit
   apart_by limit a = record { earlier = a.earlier; later = a.later; first = on a.earlier a.first; second = on a.later a.second; apart = a.apart }
 
-  slept_for : (turn : Turn) (script : List Stmt) → HasSleptFor gives turn script → HasSleptFor more turn script
-  slept_for (Ran reply) script w = waited _ w
-  slept_for LogIsFull script w = waited _ w
-  slept_for turn script w = w
-
   sleeps : (text : List ℕ) (turn : Turn) → Sleeps gives text turn → Sleeps more text turn
-  sleeps text (Ran reply) s = (s.0, s.1, slept_for (Ran reply) s.0 s.2)
-  sleeps text LogIsFull s = (s.0, s.1, slept_for LogIsFull s.0 s.2)
-  sleeps text turn s = s
+  sleeps text turn s whole = (let slept = s whole in (slept.0, slept.1, waited _ slept.2))
 
   all_sleep : (texts : List (List ℕ)) (turns : List Turn) → AllSleep gives texts turns → AllSleep more texts turns
   all_sleep [] [] s = s
@@ -61,7 +54,6 @@ module _ {gives more : ℕ → Type 0} (on : (moment : ℕ) → gives moment →
         heeded = c.heeded;
         sound = c.sound;
         slept = link_slept turns link c.slept;
-        cancelled = c.cancelled;
       }
 
   session_run : (stamp : Option ℕ) (seed : List ℕ) (limit : ℕ) (link : LinkTold) (decision : Cac) (run : Run) → IsSessionRun stamp seed limit gives link decision run → IsSessionRun stamp seed limit more link decision run

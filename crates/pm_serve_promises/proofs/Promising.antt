@@ -46,7 +46,7 @@ module _ (right : RepliesAreRight) (own : OwnEntriesStand) (never : AckedNeverFa
     promised_run = record {
       run = run;
       restarts = safely.in_order conf.limits any_moment (journal_in run) run.journal.legal;
-      chained = chained (manner_by conf before) (slots_by conf.limits) run.moves board run.own run.book run.board_is run.left run.once run.renewals run.redos;
+      chained = chained (manner_by conf before) (slots_by conf.limits) run.moves board run.own run.book run.board_is run.left run.once run.redos;
       crashes = crashes_for_cause safely conf end board before now run;
       reason = fails_for_reason conf end board before now run;
       completes = completes safely for_cause conf end board before now run;

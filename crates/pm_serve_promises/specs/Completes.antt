@@ -12,10 +12,6 @@ abbrev pub IsNoAbort : PmEvent → Type 0
 IsNoAbort (entry.Exited pid kind status was_active at) = status ≢ Signal 6
 IsNoAbort _ = Unit {0}
 
--- the log had another epoch for it
-abbrev pub HasEpoch : Run → Type 0
-HasEpoch run = (need : ℕ) → ¬ (WasRefused (Full need 0) run)
-
 -- the entry tells of the end of one of these, whom the store refused for want of memory
 abbrev pub EndsShort : List Run → PmEvent → Type 0
 EndsShort runs e =
@@ -30,7 +26,7 @@ module _ {conf : Conf} {end : ServerEnd} {board : RosterView MailTold} {before n
     pub first : Files
     pub handed_in : before.outside.disk.files ≡ Some first
     pub read : AreReadable first
-    pub epochs : AllByRecursion HasEpoch (runs_in run)
+    pub epochs : AllByRecursion (λ r. (need : ℕ) → ¬ (WasRefused (Full need 0) r)) (runs_in run)
     pub no_abort : AllByRecursion IsNoAbort (journal_in run)
 
   -- It ended clean or for want of memory, and whoever crashed first, if anybody did, was short of memory.

@@ -5,13 +5,9 @@ use Rattle.pm_postmaster.specs.{pm_board.declared.views.RosterView.RosterView, p
 use Rattle.pm_serve_first_crash.specs.{pm_supervisor_crashes.Crashes.{IsFirstCrash, stands_behind}, Causes.HasCause}
 use Rattle.pm_serve_promises.specs.Runs.{journal_in}
 
--- it ended as after a crash
-abbrev pub IsAfterCrash : ServerEnd → Type 0
-IsAfterCrash end = (end ≡ Abnormal AfterCrash) ⊎ (end ≡ Abnormal RestartOff)
-
 module _ {conf : Conf} {end : ServerEnd} {board : RosterView MailTold} {before now : ServeView} (run : IsServed conf end board before now) where
   -- its first crash has a cause, and there was one if it ended as after a crash
   pub record CrashesForCause : Type 0 where
     pub cause : (e : PmEvent) (first : IsFirstCrash conf.limits (journal_in run) e)
         → HasCause (manner_by conf before) (stands_behind conf.limits first.before) (slots_by conf.limits) run.left.runs e
-    pub crashed : IsAfterCrash end → (e : PmEvent) × IsFirstCrash conf.limits (journal_in run) e
+    pub crashed : (end ≡ Abnormal AfterCrash) ⊎ (end ≡ Abnormal RestartOff) → (e : PmEvent) × IsFirstCrash conf.limits (journal_in run) e

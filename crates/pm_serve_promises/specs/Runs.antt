@@ -17,10 +17,5 @@ module _ {conf : Conf} {end : ServerEnd} {board : RosterView MailTold} {before n
 
   -- the run with these connections and this book
   abbrev pub run_view : List Talk → List BookEntry → RunView
-  run_view talks book = record {
-    book = book;
-    talks = talks;
-    before = before.outside.disk;
-    now = now.outside.disk;
-    clean = HasEndedClean journal_in;
-  }
+  run_view talks book =
+      record { book = book; talks = talks; before = before.outside.disk; now = now.outside.disk; clean = HasEndedClean journal_in }

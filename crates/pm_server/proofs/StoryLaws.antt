@@ -322,7 +322,7 @@ story_nothing before book empty = each_told (IsStory NoMemory before before) boo
       legal = λ sure. record { entries = tt; renewals = tt };
       stops = inl (record {
         unanswered = tt;
-        unredone = tt;
+        unredone = refl;
         keeps = told_or_not before.files _ (λ t from upto image there. ∣ (image, subst (λ (n : ℕ). before.images n image) (omega (arith, from, upto)) there, λ s means. means) ∣₁);
       });
       clean = λ is. cc;

@@ -1,8 +1,16 @@
 -- Before the first redo none has ended in the book: it would be legal from one base alone.
-use Rattle.std.{proofs.{Common.{◌≡◌, ℕ, List, [], ◌∷◌, ◌++◌, Option, None, refl, ◌∙◌, ap, subst, arith}, lemmas.List.{Elements.{All-head, All-tail}, Sums.fold-append}}, specs.{Prelude.All, List.AllByRecursion}}
+use Rattle.std.{proofs.{Common.{◌≡◌, ℕ, List, [], ◌∷◌, ◌++◌, false, Option, None, refl, ◌∙◌, ap, subst, arith}, lemmas.List.{Elements.{All-head, All-tail}, Sums.fold-append}}, specs.{Prelude.All, List.AllByRecursion}}
 use Rattle.std.specs.FinMap as finite
-use Rattle.pm_segment.specs.{pm_query.{History.{History, beginning}, Book.{Base, Course, IsLegal, KeepsNumber, MayFollow, MayGoOn, course_after, course_of, history_of, kept_after, kept_by_redo, standing_of}, declared.book.BookEntry.{BookEntry, TheVariants.{Opened, Attached, Redone, Answered, Released, Detached, Gone, CheckpointEnded, Broke, LogFull}}}, Stands.HasNoTick}
-use Rattle.pm_server.specs.Story.{IsNoRedo}
+use Rattle.pm_segment.specs.{pm_query.{History.{History, beginning}, Book.{Base, Course, IsLegal, KeepsNumber, MayFollow, MayGoOn, course_after, course_of, history_of, kept_after, kept_by_redo, standing_of}, declared.book.BookEntry.{BookEntry, TheVariants.{Opened, Attached, Redone, Answered, Released, Detached, Gone, CheckpointEnded, Broke, LogFull}}}, Stands.HasNoTick, Unread.has_redo}
+
+abbrev IsNoRedo : BookEntry → Type 0
+IsNoRedo (Redone pid generation kept) = ⊥
+IsNoRedo _ = Unit {0}
+
+none_redone : (book : List BookEntry) → AllByRecursion IsNoRedo book → has_redo book ≡ false
+none_redone [] none = refl
+none_redone (Redone pid generation kept ∷ book) none = absurd none.0
+none_redone (_ ∷ book) none = none_redone book none.1
 
 -- a base of so many commits
 abbrev pub base_at : (faults count : ℕ) → Base
@@ -77,6 +85,7 @@ no_redos faults before (e ∷ behind) none one ticks may also =
     let tick = All-head HasNoTick e behind ticks in
     (other, no_redos faults (before ++ e ∷ []) behind (fresh_behind (base_at faults 0) before e tick other none) (fresh_behind (base_at faults 1) before e tick other one) (All-tail HasNoTick e behind ticks) may.1 also.1)
 
-pub unredone : (faults : ℕ) (book : List BookEntry) → All HasNoTick book → ((base : Base) → base.faults ≡ faults → IsLegal base book) → AllByRecursion IsNoRedo book
+pub unredone : (faults : ℕ) (book : List BookEntry) → All HasNoTick book → ((base : Base) → base.faults ≡ faults → IsLegal base book) → has_redo book ≡ false
 unredone faults book ticks legal =
-    no_redos faults [] book (record { kept = refl; course = refl }) (record { kept = refl; course = refl }) ticks (legal (base_at faults 0) refl).entries (legal (base_at faults 1) refl).entries
+    none_redone book
+    (no_redos faults [] book (record { kept = refl; course = refl }) (record { kept = refl; course = refl }) ticks (legal (base_at faults 0) refl).entries (legal (base_at faults 1) refl).entries)

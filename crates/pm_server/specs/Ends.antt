@@ -99,11 +99,9 @@ IsKnownAt NoMemory from at = Unit {0}
 
 -- the line of an end, after those of the journal
 abbrev pub end_line : ServerEnd → List ℕ
-end_line Clean = []
-end_line (Abnormal AfterCrash) = []
 end_line (Abnormal (StartupFailed (Redo fault))) = redo_line fault
 end_line (Abnormal (StartupFailed Killed)) = codes "startup was killed\n"
-end_line (Abnormal RestartOff) = []
 end_line (Abnormal GenerationsSpent) = codes "no generation is left\n"
 end_line NoThread = codes "no thread\n"
 end_line NoMemory = codes "out of memory\n"
+end_line _ = []

@@ -3,7 +3,7 @@ use Rattle.std.specs.Prelude.{ℕ, List, Option}
 use Rattle.pm_outside.specs.Visits.{Visits}
 use Rattle.pm_state.specs.declared.event.PmEvent.{PmEvent}
 use Rattle.pm_query.specs.declared.book.BookEntry.{BookEntry}
-use Rattle.pm_server.specs.{Views.{DiskView, StoreView}, declared.outside.Outside.Outside}
+use Rattle.pm_server.specs.{Views.{DiskView, StoreView, disk_view}, declared.outside.Outside.Outside}
 
 -- The links of the port, what was written to the sink and how often it failed, the disk, the moments that the clock gives, and
 -- the entries of journal and book. The seed is that of the keys of sessions.
@@ -27,12 +27,7 @@ outside_view {p = p} {o = o} {d = d} {c = c} {j = j} {b = b} outside = record {
   visits = p.visits outside.port;
   written = o.written outside.sink;
   sink_faults = o.faults outside.sink;
-  disk = record {
-    files = d.seen outside.disk;
-    images = d.images outside.disk;
-    ticks = d.ticks outside.disk;
-    faults = d.faults outside.disk;
-  };
+  disk = disk_view d outside.disk;
   gives = c.gives outside.clock;
   journal = j.entries outside.journal;
   book = b.entries outside.book;

@@ -1,7 +1,7 @@
 -- What a run of a server leaves in its two files, after whatever crash cycles.
-use Rattle.std.specs.{Prelude.{◌≡◌, ◌⊎◌, ℕ, ◌≤◌, true, List, [], ◌∷◌, Option, Some, IfSome}, List.AllByRecursion}
+use Rattle.std.specs.{Prelude.{◌≡◌, ◌⊎◌, ℕ, ◌≤◌, true, false, List, [], ◌∷◌, Option, Some, IfSome}, List.AllByRecursion}
 use Rattle.pm_query.specs.{pm_disk.{Files.Files, declared.disk.Which.Which}, pm_record.{Pair.{Means, MeansIn, PairStandsFor}, StandsFor.{Content, standing_of}}, History.{History, count_of, number}, Book.{Base, IsLegal, history_of, standing_of as base_standing}, Durable.{IsDurable, MeansAsOne}, declared.book.BookEntry.{BookEntry, TheVariants.{Answered, Opened, Redone, Released}}}
-use Rattle.pm_segment.specs.Unread.{breaks_unread}
+use Rattle.pm_segment.specs.Unread.{breaks_unread, has_redo}
 use Rattle.pm_server.specs.{Views.DiskView, declared.end.ServerEnd.{ServerEnd, TheVariants.Clean}}
 
 -- ---- before the first redo has ended
@@ -11,15 +11,11 @@ IsNoAnswer (Answered pid script reply commit front tick) = ⊥
 IsNoAnswer (Released pid front tick) = ⊥
 IsNoAnswer _ = Unit {0}
 
-abbrev pub IsNoRedo : BookEntry → Type 0
-IsNoRedo (Redone pid generation kept) = ⊥
-IsNoRedo _ = Unit {0}
-
 -- No redo has ended, and no query was answered. At every tick whatever a stop leaves means what a stop could have left at first,
 -- where the disk tells.
 pub record KeepsMeaning (book : List BookEntry) (before now : DiskView) : Type 0 where
   pub unanswered : AllByRecursion IsNoAnswer book
-  pub unredone : AllByRecursion IsNoRedo book
+  pub unredone : has_redo book ≡ false
   pub keeps : IfSome now.files (λ _. (t : ℕ) → before.ticks ≤ t → t ≤ now.ticks
       → (image : Files) → now.images t image → MeansAsOne Means (before.images before.ticks) image)
 
@@ -41,6 +37,10 @@ pub record IsClean (history : History) (files : Files) : Type 0 where
   pub is : standing_of content ≡ number history (count_of history)
   pub clean : content.clean ≡ true
   pub nothing_behind : content.batches ≡ []
+
+-- They are so, and so is whatever a stop leaves.
+abbrev pub AreLeftClean : History → DiskView → Files → Type 0
+AreLeftClean history now files = ∥ IsClean history files ∥₁ × ((image : Files) → now.images now.ticks image → ∥ IsClean history image ∥₁)
 
 -- ---- the whole
 

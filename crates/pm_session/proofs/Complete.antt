@@ -1,12 +1,12 @@
 -- Which queries of what came in have an answer.
 use Rattle.std.{proofs.{Common.{◌≡◌, ◌≢◌, ◌⊎◌, inl, inr, ℕ, ◌+◌, ◌<◌, ◌≤◌, List, [], ◌∷◌, ◌++◌, length, get_or, None, Some, Result, Ok, Err, refl, sym, ◌∙◌, ap, subst, arith, append_assoc, length-append}, lemmas.List.{append_cancel_left, append-nil, take_all, Concat.flat_map-cons}}, specs.List.{flat_map, Contains}}
-use Rattle.pm_session_exchange.specs.{pm_outside.{pm_disk.Cause.Rose, Traffic.Traffic}, pm_child_life.Life.{Told, Signal}, declared.ending.{MessageFault.TheVariants.{BadLength, BadForm, LongQuery, Extended, UnknownType}, Cause.{Cause, TheVariants.{Terminated, Cancelling, LinkEnded, LinkFailed, TimedOut, PacketRefused, MessageRefused, DecisionRefused, GateRefused, ShortOfMemory, Panicked, ToldToTerminate, ToldToQuit, Killed, Overtaken}}, Stage.{Stage, TheVariants.{Outside, Entering, Greeted}}}, Sent.{Turn, Ran, Faulted, NotUtf8, Cancelled, LogIsFull, Memory}, Queries.{IsCancelledTurn, TurnNotes}}
+use Rattle.pm_session_exchange.specs.{pm_outside.{pm_disk.Cause.Rose, Traffic.Traffic}, pm_child_life.Life.{Told, Signal, Cancel}, declared.ending.{MessageFault.TheVariants.{BadLength, BadForm, LongQuery, Extended, UnknownType}, Cause.{Cause, TheVariants.{Terminated, Cancelling, LinkEnded, LinkFailed, TimedOut, PacketRefused, MessageRefused, DecisionRefused, GateRefused, ShortOfMemory, Panicked, ToldToTerminate, ToldToQuit, Killed, Overtaken}}, Stage.{Stage, TheVariants.{Outside, Entering, Greeted}}}, Sent.{Turn, Ran, Faulted, NotUtf8, Cancelled, LogIsFull, Memory}, Queries.{IsCancelledTurn, TurnNotes}}
 use Rattle.pm_admit.specs.declared.Cac.{Cac}
 use Rattle.pm_startup.specs.{declared.{packet.StartFault.StartFault, phase.Phase.Phase}, Grammar.{Content, startup, ssl_request, gssenc_request, cancel_request, Decides, IsUndecided as IsNoPacketYet}, Phases.step_of, pm_wire.{Pieces.{int32, string}, Numbers.number_again, Stream.StandApart, Frontend.{FrontMessage, Query, BadQuery, LongQuery as IsLongQuery, Terminate, Extended as IsExtended, Other, IsFront, IsBadHeader}}}
 use Rattle.pm_startup.specs.declared.phase.Step.TheVariants as steps
 use Rattle.pm_query.specs.{pm_sql.{declared.{stmt.Stmt.Stmt, query.SqlFault.SqlFault}, Statements.IsQueryText, Faults.IsFaultOf, Laws.NoFault}, declared.book.BookEntry.BookEntry, Calls.User}
 use Rattle.pm_query.specs.pm_sql.declared.query.SqlFault.TheVariants as texts
-use Rattle.pm_session.specs.{Session.{Ending, AllNotes, AskInTurn, CausedBy, EndsAt, IsAdmitted, IsBehindStart, IsCaused, IsServed, IsStart, MayPassOver, NotesOutside, StaysOut, TurnsAway, between, first_phase, query_bytes}, Complete.{IsProper, AllProper, IsRun, AllRun, EndsForStore, Begins, EachQueryIsAnswered}}
+use Rattle.pm_session.specs.{Heeding.TurnsHeed, Session.{Ending, AllNotes, AskInTurn, CausedBy, EndsAt, IsAdmitted, IsBehindStart, IsCaused, IsServed, IsStart, MayPassOver, NotesOutside, StaysOut, TurnsAway, between, first_phase, query_bytes}, Complete.{IsProper, AllProper, IsRun, AllRun, EndsForStore, Begins, EachQueryIsAnswered}}
 
 -- ---- what stands after an opening
 
@@ -62,6 +62,26 @@ is_run none pid text NotUtf8 noted notes uncancelled proper = absurd (notes.0 pr
 is_run none pid text Cancelled noted notes uncancelled proper = absurd (uncancelled tt)
 is_run none pid text LogIsFull noted notes uncancelled proper = tt
 is_run none pid text Memory noted notes uncancelled proper = tt
+
+cancelled_is : (turn : Turn) → IsCancelledTurn turn → turn ≡ Cancelled
+cancelled_is Cancelled is = refl
+cancelled_is (Ran reply) is = absurd is
+cancelled_is (Faulted fault) is = absurd is
+cancelled_is NotUtf8 is = absurd is
+cancelled_is LogIsFull is = absurd is
+cancelled_is Memory is = absurd is
+
+-- a cancelled turn was given its cancel
+heeded_cancel : (from : ℕ) (turns : List Turn) (to : ℕ) (given : List (ℕ × Signal)) → TurnsHeed from turns to given → (before : List Turn) (turn : Turn) (behind : List Turn)
+    → turns ≡ before ++ turn ∷ behind → IsCancelledTurn turn → (ask : ℕ) × Contains given (ask, Cancel)
+heeded_cancel from [] to given heeds [] turn behind is cancelled = cc
+heeded_cancel from [] to given heeds (b ∷ before) turn behind is cancelled = cc
+heeded_cancel from (t ∷ turns) to given (began, over, one, rest) [] turn behind is cancelled =
+    let same : t ≡ turn = cc in
+    let own = one.cancelled (same ∙ cancelled_is turn cancelled) in
+    (own.0, own.1)
+heeded_cancel from (t ∷ turns) to given (began, over, one, rest) (b ∷ before) turn behind is cancelled =
+    heeded_cancel over turns to given rest before turn behind (let same : turns ≡ before ++ turn ∷ behind = cc in same) cancelled
 
 -- none of the turns was cancelled
 abbrev NoneCancelled : List Turn → Type 0
@@ -212,7 +232,7 @@ answered apart free fault decision user key turns ending generation came_in whol
     behind_opening free first_phase first_phase opens.phase served.phase opens.requests served.requests opens.packet served.packet (queries ++ begins.beyond) (taken ++ (served.last ++ served.beyond)) opens.asks served.asks opens.start served.start (sym mine ∙ theirs) in
     elim (stops_or apart user ending.cause served.last served.beyond served.ended decision traffic failed told limit gives sound none caused.cause served.ends served.passes_over) [
       | inr store ↦ inr store
-      | inl stops ↦ inl (runs apart fault user.pid texts served.texts turns served.asked begins.beyond (served.last ++ served.beyond) begins.proper served.each (λ before turn behind e is. never_given told _ none (caused.cancelled before turn behind e is)) same stops)
+      | inl stops ↦ inl (runs apart fault user.pid texts served.texts turns served.asked begins.beyond (served.last ++ served.beyond) begins.proper served.each (λ before turn behind e is. never_given told _ none (heeded_cancel 0 turns told.asked told.given caused.heeded before turn behind e is)) same stops)
     ]
 
 pub each_query : {S C : Type 0} (notes : List BookEntry → S → S → Type 0) (gives : C → ℕ → Type 0) → StandApart IsFront → PrefixFree → NoFault → EachQueryIsAnswered notes gives

@@ -8,7 +8,7 @@ use Rattle.pm_startup.specs.{declared.phase.Phase.Phase, pm_wire.Backend.BackMes
 use Rattle.pm_session_exchange.specs.pm_query.declared.store.StoreNo.TheVariants as nos
 use Rattle.pm_session_exchange.specs.pm_query.declared.store.Store as Store
 use Rattle.pm_child_life.{specs.{Life.{Child, Told, Signal, Kill, Quit, Terminate as ToTerminate, Cancel, nothing_told, met_at_gate, asked_cancel, IsUntried, HasNoCancel}, declared.life.GateNo.GateNo, Attention.{Attention, HasAsked, Hears, IsAttentive, KeepsCancels, was_given}}, proofs.AttentionLaws.{hears_both, hears_fewer, cancels_then}}
-use Rattle.pm_session.{specs.{Session.{Ending, Heeds, HasAskedFor, CausedBy, IsCaused, HasEntered, IsAdmitted, IsSession, between, HasPassed, AskInTurn, IsStart, StopsAt, EndsAt, AllNotes, AllSleep, HasSlept, MayPassOver, NotesOutside, Leaves, IsAttachedAt, IsBehindStart, IsInside, StaysOut, AsksCancel, HasCancelled, first_phase, pieces, query_bytes, last_messages, status_of, TurnsAway, IsAttachedBehind}, Conversation.Conversed, declared.session.Admission.Admission, Entry.{ClosesBy, Connected, Enters, AsksToCancel, IsTold, EndsBy, Closes, Serves, IsTextBehind, IsTextInside, CanRefuseEntry, refusal_cause}, Heeding.{TurnsHeed, HeedInTurn, AllRead}}, proofs.{Attentions.{untried_still, new_untried, new_no_cancel, cancels_still, HasCancels}, Heeding.{heed_none, heed_all, heed_later, heed_earlier}, Links.fresh_sound, Closings.{told_status, told_still, told_now}, Said.shows_since, Conversing.nothing_yet, Entries.{enters_not, no_packet_yet}, Overtaking.ending_overtaken}}
+use Rattle.pm_session.{specs.{Session.{Ending, Heeds, HasAskedFor, CausedBy, IsCaused, HasEntered, IsAdmitted, IsSession, between, HasPassed, AskInTurn, IsStart, StopsAt, EndsAt, AllNotes, AllSleep, HasSlept, MayPassOver, NotesOutside, Leaves, ByStage, IsBehindStart, IsInside, StaysOut, AsksCancel, HasCancelled, first_phase, pieces, query_bytes, last_messages, status_of, TurnsAway, IsAttachedBehind}, Conversation.Conversed, declared.session.Admission.Admission, Entry.{ClosesBy, Connected, Enters, AsksToCancel, IsTold, EndsBy, Closes, Serves, IsTextBehind, IsTextInside, CanRefuseEntry, refusal_cause}, Heeding.{TurnsHeed, HeedInTurn, AllRead}}, proofs.{Attentions.{untried_still, new_untried, new_no_cancel, cancels_still, HasCancels}, Heeding.{heed_none, heed_all, heed_later, heed_earlier}, Links.fresh_sound, Closings.{told_status, told_still, told_now}, Said.shows_since, Conversing.nothing_yet, Entries.{enters_not, no_packet_yet}, Overtaking.ending_overtaken}}
 
 -- ---- two texts, one after the other
 
@@ -131,10 +131,10 @@ pub inside_at : (stage inner : Stage) → stage ≡ inner → IsInside inner →
 inside_at stage inner is inside = subst IsInside (sym is) inside
 
 -- where the child is attached, by how far it had come
-pub attached_outside : (stage : Stage) (outside inside : Type 0) → stage ≡ Outside → outside → IsAttachedAt stage outside inside
-attached_outside stage outside inside is holds = subst (λ (s : Stage). IsAttachedAt s outside inside) (sym is) holds
+pub attached_outside : (stage : Stage) (outside inside : Type 0) → stage ≡ Outside → outside → ByStage stage outside inside
+attached_outside stage outside inside is holds = subst (λ (s : Stage). ByStage s outside inside) (sym is) holds
 
-pub attached_inside : (stage : Stage) (outside inside : Type 0) → IsInside stage → inside → IsAttachedAt stage outside inside
+pub attached_inside : (stage : Stage) (outside inside : Type 0) → IsInside stage → inside → ByStage stage outside inside
 attached_inside Outside outside inside never holds = absurd never
 attached_inside Entering outside inside is holds = holds
 attached_inside Greeted outside inside is holds = holds
@@ -222,7 +222,6 @@ turned_away notes decision user key generation gives cause ending link0 link2 un
         gate = gate;
         out = subst (λ (c : Cause). StaysOut ending.stage c at2.told) (sym is) out;
         heeded = none_heed at2.told;
-        cancelled = λ before turn behind e cancelled. absurd (no_turn before turn behind e);
         sound = closes.sound (sound_left false cause link0.traffic sound);
         slept = slept;
       };
@@ -563,7 +562,6 @@ served_inside notes decision user key gives cause ending link0 link1 link2 unrea
         gate = subst (λ (s : Stage). HasEntered s user.generation at2.told) (sym stage) (met_still (length talked.turns + 1) (Ok user.generation) at0.told at2.told hears.asked met);
         out = out_inside ending.stage ending.cause at2.told (inside_at ending.stage Greeted stage tt);
         heeded = heed_all (length talked.turns + 1) talked.turns at0.told at2.told hears.asked (heed_later 1 talked.turns at0.told at1.told at2.told talked.heeded closes.hears.asked closes.hears.gained);
-        cancelled = λ before turn behind e cancelled. closes.hears.given Cancel (talked.cancelled turn (turn_in talked.turns before turn behind e) cancelled);
         sound = closes.sound (talked.holds sound);
         slept = slept;
       };
@@ -843,7 +841,6 @@ stopped_caused decision generation cause ending link0 link1 link2 unread1 at0 at
       gate = subst (λ (s : Stage). HasEntered s generation at2.told) (sym stage) tt;
       out = out_untried ending.stage ending.cause at2.told stage untried;
       heeded = none_heed at2.told;
-      cancelled = λ before turn behind e cancelled. absurd (no_turn before turn behind e);
       sound = closes.sound (enters.holds (fresh_sound link0.traffic fresh));
       slept = none_slept gives link2.traffic;
     }
@@ -909,7 +906,6 @@ caused_since ending turns generation decision traffic before now told limit give
   gate = caused.gate;
   out = caused.out;
   heeded = caused.heeded;
-  cancelled = caused.cancelled;
   sound = caused.sound;
   slept = caused.slept;
 }
@@ -1024,7 +1020,7 @@ pub connected_as : {S P : Type 0} (its : Store.Ghosts S P) (admission : Admissio
     → (ending : Ending) × (turns : List Turn) × (generation : ℕ) × (status ≡ status_of ending)
     × IsSession its.notes admission.decision (newcomer (its.stamp store0) child0.pid generation) admission.key turns ending (HasFailed given back) (between back.traffic store0 store1)
     × IsCaused ending turns generation admission.decision back.traffic (HasFailed given back) told1 limit gives × HasAskedFor turns told0 told1
-    × IsAttachedBehind ending generation child1 × HasCancelled ending.cause back.traffic told1 × IsOvertakenBy (its.met store1) generation ending.exit
+    × IsAttachedBehind ending generation child1.attached × HasCancelled ending.cause back.traffic told1 × IsOvertakenBy (its.met store1) generation ending.exit
 connected_as its admission gives exit status limit link0 link1 given back unread0 unread1 store0 store1 at0 at1 told0 told1 child0 child1 handed is s =
     rw (← handed.link_given, ← handed.link_back, ← handed.told_given, handed.told_back, ← handed.child_given, handed.child_back) (s.0, s.1, s.2, is ∙ ap status_by (sym s.3), s.4, s.5 limit, s.6, s.7, s.8, s.10)
 

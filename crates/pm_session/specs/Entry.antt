@@ -166,7 +166,7 @@ module _ {S P : Type 0} (its : Store.Ghosts S P) where
   -- after the startup packet
   abbrev pub Admitted : Admission → (gives : ℕ → Type 0) → (exit : Cause) → (before now : Moment S) → Type 0
   Admitted admission gives exit before now =
-      (ending : Ending) × (generation : ℕ) × (ending.exit ≡ exit) × IsAttachedBehind ending generation now.child.child
+      (ending : Ending) × (generation : ℕ) × (ending.exit ≡ exit) × IsAttachedBehind ending generation now.child.child.attached
       × Serves its.notes (IsTextBehind admission.decision (newcomer (its.stamp before.store) before.child.child.pid generation) admission.key) admission.decision generation gives ending before now
       × IsOvertakenBy (its.met now.store) generation ending.exit
 
@@ -177,7 +177,7 @@ module _ {S P : Type 0} (its : Store.Ghosts S P) where
       × IsSession its.notes admission.decision (newcomer (its.stamp before.store) before.child.child.pid generation) admission.key turns ending (HasFailed before.link now.link) (between now.link.traffic before.store now.store)
       × ((limit : ℕ) → IsCaused ending turns generation admission.decision now.link.traffic (HasFailed before.link now.link) now.child.told limit gives)
       × HasAskedFor turns before.child.told now.child.told
-      × IsAttachedBehind ending generation now.child.child
+      × IsAttachedBehind ending generation now.child.child.attached
       × HasCancelled ending.cause now.link.traffic now.child.told
       × Heeds (status_of ending) now.child.told
       × IsOvertakenBy (its.met now.store) generation ending.exit

@@ -6,11 +6,9 @@ use Rattle.pm_session_exchange.specs.{pm_child_life.{Life.{Told, Signal, Kill, Q
 
 -- a signal after which a session comes to its end
 abbrev pub IsEnding : Signal → Type 0
-IsEnding Kill = Unit {0}
-IsEnding (Quit reason) = Unit {0}
-IsEnding Terminate = Unit {0}
 IsEnding Cancel = ⊥
 IsEnding Checkpoint = ⊥
+IsEnding _ = Unit {0}
 
 -- A sleep began after one ask and ended after another, by which the child had asked in it. Up to its end no cancel was given
 -- but those up to its beginning, as far as asks are numbered.
@@ -43,6 +41,5 @@ HeedInTurn turns (Some before) (Some now) = TurnsHeed before.asked turns now.ask
 -- ---- texts
 
 abbrev pub AllRead : List (List ℕ) → List Turn → Type 0
-AllRead [] turns = Unit {0}
-AllRead (text ∷ texts) [] = Unit {0}
 AllRead (text ∷ texts) (turn ∷ turns) = IsReadAs text turn × AllRead texts turns
+AllRead _ _ = Unit {0}

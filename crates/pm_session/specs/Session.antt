@@ -37,13 +37,11 @@ AllNotes pid [] [] entries = entries ≡ []
 AllNotes pid (text ∷ texts) (turn ∷ turns) entries =
     (first : List BookEntry) × (others : List BookEntry) × (entries ≡ first ++ others) × IsFront (query_bytes text) (Query text)
     × TurnNotes pid text turn first × AllNotes pid texts turns others
-AllNotes pid [] (turn ∷ turns) entries = ⊥
-AllNotes pid (text ∷ texts) [] entries = ⊥
+AllNotes pid _ _ entries = ⊥
 
 abbrev pub pieces : List (List ℕ) → List Turn → List BackMessage
-pieces [] turns = []
-pieces (text ∷ texts) [] = []
 pieces (text ∷ texts) (turn ∷ turns) = turn_messages text turn ++ pieces texts turns
+pieces _ _ = []
 
 -- ---- what came in before the session was greeted
 
@@ -66,21 +64,18 @@ IsStart packet = (user : List ℕ) × Decides packet (Ok (startup user))
 
 -- the packet after the requests, at an ending before the greeting
 abbrev pub StopsAt : Phase → Cause → List ℕ → Type 0
-StopsAt phase Terminated last = ⊥
 StopsAt phase Cancelling last = (pid : ℕ) × (key : ℕ) × Decides last (Ok (cancel_request pid key))
 StopsAt phase LinkEnded last = IsNoPacketYet last
 StopsAt phase LinkFailed last = IsNoPacketYet last
 StopsAt phase TimedOut last = IsNoPacketYet last
 StopsAt phase (PacketRefused fault) last = IsRefusedPacket phase last fault
-StopsAt phase (MessageRefused fault) last = ⊥
 StopsAt phase DecisionRefused last = IsStart last
 StopsAt phase (GateRefused refusal) last = IsStart last
 StopsAt phase ShortOfMemory last = IsNoPacketYet last ⊎ IsStart last
-StopsAt phase Panicked last = ⊥
 StopsAt phase ToldToTerminate last = IsNoPacketYet last ⊎ IsStart last
 StopsAt phase (ToldToQuit reason) last = IsNoPacketYet last ⊎ IsStart last
 StopsAt phase Killed last = IsNoPacketYet last ⊎ IsStart last
-StopsAt phase Overtaken last = ⊥
+StopsAt phase _ last = ⊥
 
 -- or a child that was let through the gate finds the store in another generation
 abbrev pub TurnsAway : User → Stage → Phase → Cause → List ℕ → Type 0
@@ -107,21 +102,16 @@ StopsInside pid last noted = (IsNoMessageYet last × (noted ≡ [])) ⊎ BreaksO
 -- the last bytes after the queries that were answered, and what is noted for them
 abbrev pub EndsAt : User → Cause → List ℕ → List BookEntry → Type 0
 EndsAt user Terminated last noted = (last ≡ message (codes "X") []) × (noted ≡ [])
-EndsAt user Cancelling last noted = ⊥
 EndsAt user LinkEnded last noted = IsNoMessageYet last × (noted ≡ [])
 EndsAt user LinkFailed last noted = IsNoMessageYet last × (noted ≡ [])
-EndsAt user TimedOut last noted = ⊥
-EndsAt user (PacketRefused fault) last noted = ⊥
 EndsAt user (MessageRefused fault) last noted = IsRefusedMessage fault last × (noted ≡ [])
-EndsAt user DecisionRefused last noted = ⊥
-EndsAt user (GateRefused refusal) last noted = ⊥
-EndsAt user ShortOfMemory last noted = ⊥
 EndsAt user Panicked last noted =
     (asked : List BookEntry) × (broke : List BookEntry) × BreaksOff user.pid last asked × NotesFault user.pid broke × (noted ≡ asked ++ broke)
 EndsAt user ToldToTerminate last noted = StopsInside user.pid last noted × (noted ≡ [])
 EndsAt user (ToldToQuit reason) last noted = StopsInside user.pid last noted
 EndsAt user Killed last noted = StopsInside user.pid last noted
 EndsAt user Overtaken last noted = MayBeOver user × BreaksOff user.pid last noted
+EndsAt user _ last noted = ⊥
 
 -- ---- the whole
 
@@ -142,15 +132,18 @@ MayPassOver LinkEnded beyond = beyond ≡ []
 MayPassOver TimedOut beyond = beyond ≡ []
 MayPassOver _ beyond = Unit {0}
 
+-- the one before the gate, and the other from the gate on
+abbrev pub ByStage : Stage → (outside inside : Type 0) → Type 0
+ByStage Outside outside inside = outside
+ByStage _ outside inside = inside
+
 -- only a child whose decision is Ok goes through the gate
 abbrev pub IsAdmitted : Stage → Cac → Type 0
-IsAdmitted Outside decision = Unit {0}
-IsAdmitted _ decision = decision ≡ decisions.Ok
+IsAdmitted stage decision = ByStage stage (Unit {0}) (decision ≡ decisions.Ok)
 
 -- it goes to the gate only after a whole startup packet
 abbrev pub IsBehindStart : Stage → List ℕ → Type 0
-IsBehindStart Outside last = Unit {0}
-IsBehindStart _ last = IsStart last
+IsBehindStart stage last = ByStage stage (Unit {0}) (IsStart last)
 
 -- It ended before the greeting.
 pub record IsTurnedAway (decision : Cac) (user : User) (ending : Ending) (came_in : List ℕ) (whole : List ℕ) (noted : List BookEntry) : Type 0 where
@@ -233,8 +226,7 @@ pub record IsApart (gives : ℕ → Type 0) (limit : ℕ) : Type 0 where
 abbrev pub AllSleep : (ℕ → Type 0) → List (List ℕ) → List Turn → Type 0
 AllSleep gives [] [] = Unit {0}
 AllSleep gives (text ∷ texts) (turn ∷ turns) = IsFront (query_bytes text) (Query text) × Sleeps gives text turn × AllSleep gives texts turns
-AllSleep gives [] (turn ∷ turns) = ⊥
-AllSleep gives (text ∷ texts) [] = ⊥
+AllSleep gives _ _ = ⊥
 
 -- So have the queries after the startup packet, one for each turn.
 pub record QueriesSlept (gives : ℕ → Type 0) (turns : List Turn) (came_in : List ℕ) : Type 0 where
@@ -269,8 +261,7 @@ CausedBy _ decision link link_failed told limit gives = Unit {0}
 
 -- it went through the gate into this generation
 abbrev pub HasEntered : Stage → ℕ → Option Told → Type 0
-HasEntered Outside generation told = Unit {0}
-HasEntered _ generation told = IfSome told (λ t. t.met ≡ Some (Ok generation))
+HasEntered stage generation told = ByStage stage (Unit {0}) (IfSome told (λ t. t.met ≡ Some (Ok generation)))
 
 -- a child outside was at the gate only where that refused it
 abbrev pub StaysOut : Stage → Cause → Option Told → Type 0
@@ -285,7 +276,6 @@ pub record IsCaused (ending : Ending) (turns : List Turn) (generation : ℕ) (de
   pub heeded : IfSome told (λ t. TurnsHeed 0 turns t.asked t.given)
   pub sound : EndsSoundly (status_of ending) link
   pub slept : IfSome link (λ traffic. HasSlept gives turns traffic.came_in)
-  pub cancelled : (before : List Turn) (turn : Turn) (behind : List Turn) → turns ≡ before ++ turn ∷ behind → IsCancelledTurn turn → was_given Cancel told
 
 -- it has asked for its signals once more at least than it has turns, or up to the last number
 abbrev pub HasAskedFor : List Turn → Option Told → Option Told → Type 0
@@ -307,15 +297,11 @@ abbrev pub IsInside : Stage → Type 0
 IsInside Outside = ⊥
 IsInside _ = Unit {0}
 
-abbrev pub IsAttachedAt : Stage → (outside inside : Type 0) → Type 0
-IsAttachedAt Outside outside inside = outside
-IsAttachedAt _ outside inside = inside
-
 -- It is attached at its end only where it went through the gate and doesn't exit of itself, and then in the generation that
 -- the gate let it into.
-abbrev pub IsAttachedBehind : Ending → (generation : ℕ) → Child → Type 0
-IsAttachedBehind ending generation child =
-    IsAttachedAt ending.stage (child.attached ≡ None) (LetsGo ending.exit (child.attached ≡ None) (child.attached ≡ Some generation))
+abbrev pub IsAttachedBehind : Ending → (generation : ℕ) → (attached : Option ℕ) → Type 0
+IsAttachedBehind ending generation attached =
+    ByStage ending.stage (attached ≡ None) (LetsGo ending.exit (attached ≡ None) (attached ≡ Some generation))
 
 -- ---- cancels
 
@@ -352,6 +338,6 @@ module _ {S P L F : Type 0} (its : Store.Ghosts S P) (of_link : Link.Ghosts L) (
       × IsCaused ending turns generation admission.decision (of_link.traffic result.link) (Rose (of_link.faults link) (of_link.faults result.link))
       (of_life.told result.life) conf.authentication_ms gives
       × HasAskedFor turns (of_life.told life) (of_life.told result.life)
-      × IsAttachedBehind ending generation (of_life.child result.life)
+      × IsAttachedBehind ending generation (of_life.child result.life).attached
       × HasCancelled ending.cause (of_link.traffic result.link) (of_life.told result.life)
       × IsOvertakenBy (its.met now) generation ending.exit

@@ -20,30 +20,15 @@ unnoted pid text LogIsFull notes whole = cc
 unnoted pid text Memory notes whole = whole
 
 pub sleeps_unnoted : (gives : ℕ → Type 0) (pid : ℕ) (text : List ℕ) (turn : Turn) → TurnNotes pid text turn [] → Sleeps gives text turn
-sleeps_unnoted gives pid text (Ran reply) notes = absurd (unnoted pid text (Ran reply) notes tt)
-sleeps_unnoted gives pid text (Faulted fault) notes = tt
-sleeps_unnoted gives pid text NotUtf8 notes = tt
-sleeps_unnoted gives pid text Cancelled notes = tt
-sleeps_unnoted gives pid text LogIsFull notes = absurd (unnoted pid text LogIsFull notes tt)
-sleeps_unnoted gives pid text Memory notes = tt
+sleeps_unnoted gives pid text turn notes whole = absurd (unnoted pid text turn notes whole)
 
 -- a script that slept is that of the text
 pub sleeps_spelled : (gives : ℕ → Type 0) (text : List ℕ) (script : List Stmt) (turn : Turn) → IsQueryText text script → HasSleptFor gives turn script → Sleeps gives text turn
-sleeps_spelled gives text script (Ran reply) query slept = (script, query, slept)
-sleeps_spelled gives text script LogIsFull query slept = (script, query, slept)
-sleeps_spelled gives text script (Faulted fault) query slept = tt
-sleeps_spelled gives text script NotUtf8 query slept = tt
-sleeps_spelled gives text script Cancelled query slept = tt
-sleeps_spelled gives text script Memory query slept = tt
+sleeps_spelled gives text script turn query slept whole = (script, query, slept whole)
 
 -- once all of the time has passed, whatever its turn
 pub slept_for : (gives : ℕ → Type 0) (turn : Turn) (script : List Stmt) → HasWaited gives (1000 * seconds_slept script) → HasSleptFor gives turn script
-slept_for gives (Ran reply) script waited = waited
-slept_for gives LogIsFull script waited = waited
-slept_for gives (Faulted fault) script waited = tt
-slept_for gives NotUtf8 script waited = tt
-slept_for gives Cancelled script waited = tt
-slept_for gives Memory script waited = tt
+slept_for gives turn script waited whole = waited
 
 pub all_slept : (gives : ℕ → Type 0) (script : List Stmt) (result : Result Answer Cause) → HasWaited gives (1000 * seconds_slept script) → IfOk result (λ answer. HasSleptFor gives (turn_of answer) script)
 all_slept gives script (Ok answer) waited = slept_for gives (turn_of answer) script waited

@@ -11,19 +11,12 @@ abbrev pub status_by : Cause → Status
 status_by Terminated = statuses.Code 0
 status_by Cancelling = statuses.Code 0
 status_by LinkEnded = statuses.Code 0
-status_by LinkFailed = statuses.Code 1
-status_by TimedOut = statuses.Code 1
 status_by (PacketRefused (Length seen)) = statuses.Code 0
-status_by (PacketRefused fault) = statuses.Code 1
-status_by (MessageRefused fault) = statuses.Code 1
-status_by DecisionRefused = statuses.Code 1
-status_by (GateRefused refusal) = statuses.Code 1
-status_by ShortOfMemory = statuses.Code 1
-status_by Panicked = statuses.Signal 6
-status_by ToldToTerminate = statuses.Code 1
 status_by (ToldToQuit reason) = statuses.Code 2
-status_by Killed = statuses.Signal 9
+status_by Panicked = statuses.Signal 6
 status_by Overtaken = statuses.Signal 6
+status_by Killed = statuses.Signal 9
+status_by _ = statuses.Code 1
 
 -- ---- the whole
 

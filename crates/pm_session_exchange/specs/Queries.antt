@@ -47,27 +47,23 @@ pub record HasWaited (gives : ℕ → Type 0) (milliseconds : ℕ) : Type 0 wher
 abbrev pub seconds_slept : List Stmt → ℕ
 seconds_slept script = min (sleep_seconds script) (2 ^ 64 - 1)
 
--- for a script that was run, all its seconds have passed
-abbrev pub HasSleptFor : (ℕ → Type 0) → Turn → List Stmt → Type 0
-HasSleptFor gives (Ran reply) script = HasWaited gives (1000 * seconds_slept script)
-HasSleptFor gives LogIsFull script = HasWaited gives (1000 * seconds_slept script)
-HasSleptFor gives turn script = Unit {0}
-
--- the same of the text that spells it
-abbrev pub Sleeps : (ℕ → Type 0) → List ℕ → Turn → Type 0
-Sleeps gives text (Ran reply) = (script : List Stmt) × IsQueryText text script × HasSleptFor gives (Ran reply) script
-Sleeps gives text LogIsFull = (script : List Stmt) × IsQueryText text script × HasSleptFor gives LogIsFull script
-Sleeps gives text turn = Unit {0}
-
-abbrev pub IsCancelledTurn : Turn → Type 0
-IsCancelledTurn Cancelled = Unit {0}
-IsCancelledTurn _ = ⊥
-
 -- its sleep went to its end, and its script was run
 abbrev pub SleptWhole : Turn → Type 0
 SleptWhole (Ran reply) = Unit {0}
 SleptWhole LogIsFull = Unit {0}
 SleptWhole _ = ⊥
+
+-- for a script that was run, all its seconds have passed
+abbrev pub HasSleptFor : (ℕ → Type 0) → Turn → List Stmt → Type 0
+HasSleptFor gives turn script = SleptWhole turn → HasWaited gives (1000 * seconds_slept script)
+
+-- the same of the text that spells it
+abbrev pub Sleeps : (ℕ → Type 0) → List ℕ → Turn → Type 0
+Sleeps gives text turn = SleptWhole turn → (script : List Stmt) × IsQueryText text script × HasWaited gives (1000 * seconds_slept script)
+
+abbrev pub IsCancelledTurn : Turn → Type 0
+IsCancelledTurn Cancelled = Unit {0}
+IsCancelledTurn _ = ⊥
 
 -- ---- texts
 

@@ -128,11 +128,6 @@ from_attach _ messages = messages
 
 -- the last that is said
 abbrev pub last_of : Cac → Stage → Cause → List BackMessage
-last_of decision stage causes.Terminated = []
-last_of decision stage causes.Cancelling = []
-last_of decision stage causes.LinkEnded = []
-last_of decision stage causes.LinkFailed = []
-last_of decision stage causes.TimedOut = []
 last_of decision stage (causes.PacketRefused fault) = packet_refusal fault
 last_of decision stage (causes.MessageRefused fault) = message_refusal fault
 last_of decision stage causes.DecisionRefused = decision_refusal decision
@@ -141,5 +136,4 @@ last_of decision stage causes.ShortOfMemory = one fixes.FatalMemory
 last_of decision stage causes.Panicked = one fixes.CouldNotWrite
 last_of decision stage causes.ToldToTerminate = from_attach stage (one fixes.Terminated)
 last_of decision stage (causes.ToldToQuit reason) = from_attach stage (quit_notice reason)
-last_of decision stage causes.Killed = []
-last_of decision stage causes.Overtaken = []
+last_of decision stage _ = []

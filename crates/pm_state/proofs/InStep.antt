@@ -1,9 +1,9 @@
 -- Journal, machine and supervisor stay in step.
 use Rattle.std.{proofs.Common.{◌≡◌, ℕ, ◌+◌, nat_eq, cond, Bool, true, false, ◌&&◌, List, [], ◌∷◌, ◌++◌, Option, Some, None, refl, arith, ap, sym, ◌∙◌, subst}, specs.Prelude.{IsSomeAnd, is_none}}
-use Rattle.pm_supervisor.{specs.{pm_exit.{declared.child.{Status.Status, Kind.Kind}, Ends.{class_of, is_exit_0}}, pm_modes.{declared.Mode.Mode, Strength.strengthen_of}, pm_admit.Admission.decide_of, declared.Limits.Limits, Children.{is_startup_child, child_of}, Phase.Phase, Supervisor.Shared, Shared.with_child, Steps.{SupervisorEvent, Trace, MayHappen, happened, all_happened, empty_trace, shared_after, after, is_normal}, Between.{is_child_step, detached, IsAlike}, Laws.{StaysWell, KeepsWhatIsShared, TakesChildStepsBetween}}, proofs.RunLaws.all_happened-append}
+use Rattle.pm_supervisor.{specs.{pm_exit.{declared.child.{Status.Status, Kind.Kind}, Ends.{class_of, is_exit_0}}, pm_modes.{declared.Mode.Mode, Strength.strengthen_of}, pm_admit.Admission.decide_of, declared.Limits.Limits, Children.{is_startup_child, child_of}, Phase.Phase, Supervisor.Shared, Shared.{reopened, with_child}, Steps.{SupervisorEvent, Trace, MayHappen, happened, all_happened, empty_trace, shared_after, after, is_normal}, Between.{is_child_step, detached, IsAlike}, Laws.{StaysWell, KeepsWhatIsShared, TakesChildStepsBetween}}, proofs.RunLaws.all_happened-append}
 use Rattle.pm_supervisor.specs.pm_exit.declared.child.Kind.TheVariants as kind
 use Rattle.pm_supervisor.specs.Steps as supervisor
-use Rattle.pm_state.{specs.{declared.{action.Action.Action, event.PmEvent.PmEvent, machine.{Machine.Machine, Exit.Exit}}, Exits.{is_shutdown, crash_rule, startup_exited}, Machine.{Accepted, Exited, Asked, Ticked, Turned, step, begun, view_of, started_as}, Starts.Owes, Transition.Transition, TurnRules.{start_recovery, restart_writer, end_smart, stop_backends, backends_gone, dead_ends_gone, children_gone, turned_of, and_then}, Shows.{Call, Accepts, Starts, Exits, Asks, Ticks, TakesTurn, Attaches, Touches, Detaches, events_of, events_of_exit, events_of_request, events_of_turn, move_of, order_of, phase_of, events_of_call, events_in, machine_after, machine_at_end, IsFit, AreFit}, Facts.Facts, Journal.{Do, EndRedo, Replay, Agrees, MayWrite, Writes, Follows, settled, dues, redo_dues, replayed, all_replayed, replay_begun, entry_of, entries_of, entries_of_call, acts_of_call, machine_with_reports}, InStep.{IsInStep, IsTimely, KeepsStep, reports_of, with_reports, server_state}}, proofs.{Acts.{are_calm, is_ordered, step-brief}, Calls.{calls-lead, counted, begun-facts, facts-alike, alike-detached}, Settling.{settled-settled, settled-shutdown, settled-ended}, Reports.{reports-fit, reported-all, reports-machine, step-owes}, TurnJournal.{call-writes, begun-agrees}, Turns.Leads}}
+use Rattle.pm_state.{specs.{declared.{action.Action.Action, event.PmEvent.PmEvent, machine.{Machine.Machine, Exit.Exit}}, Exits.{is_shutdown, crash_rule, startup_exited}, Machine.{Accepted, Exited, Asked, Ticked, Turned, step, begun, view_of, started_as}, Starts.Owes, Transition.Transition, TurnRules.{start_recovery, restart_writer, end_smart, stop_backends, backends_gone, dead_ends_gone, children_gone, turned_of, and_then}, Shows.{Call, Accepts, Starts, Exits, Asks, Ticks, TakesTurn, Attaches, Touches, Detaches, events_of, events_of_exit, events_of_request, events_of_turn, move_of, order_of, phase_of, events_of_call, events_in, machine_after, machine_at_end, IsFit, AreFit}, Facts.Facts, Journal.{Do, EndRedo, Replay, Agrees, MayWrite, Writes, Follows, settled, dues, redo_dues, replayed, all_replayed, replay_begun, entry_of, entries_of, entries_of_call, acts_of_call, machine_with_reports}, InStep.{IsInStep, IsTimely, KeepsStep, reports_of, with_reports, server_state}}, proofs.{Acts.{are_calm, is_ordered, step-brief}, Calls.{calls-lead, counted, begun-facts, facts-alike, alike-detached}, Settling.{settled-settled, settled-shutdown, settled-ended}, Reports.{reports-fit, reported-all, reports-machine, step-owes}, ReplayLaws.reopens, TurnJournal.{call-writes, begun-agrees}, Turns.Leads}}
 use Rattle.pm_state.specs.declared.action.Action.TheVariants as act
 use Rattle.pm_state.specs.declared.event.PmEvent.TheVariants as entry
 
@@ -294,8 +294,8 @@ startup-shown law between kept r m h pid status a now agrees shown =
           let same : shared_all h.now.shared (events_of_call m call) ≡ shared_all (shared_after s1 redone) (events_of acts) =
           ap (λ b. shared_all s1 (cond b (redone ∷ []) [] ++ events_of acts)) is in
           let second : (replayed r1 e2).shown ≡ detached (shared_after s1 redone) =
-          ap (λ o. shared_after r1.shown (supervisor.RedoEnded (is_none o))) (known-request r m pid status a now agrees)
-          ∙ (ap (λ s. shared_after s redone) first ∙ sym (between.detaches s1 redone refl)) in
+          ap (λ o. reopened (is_none o) r1.shown) (known-request r m pid status a now agrees)
+          ∙ (reopens (is_none m.shutdown) r1.shown ∙ (ap (λ s. shared_after s redone) first ∙ sym (between.detaches s1 redone refl))) in
           dues-shown kept now acts (replayed r1 e2)
           ∙ (ap (λ s. shown_by s acts) second
           ∙ sym (call-shown law h (machine_after m call) (events_of_call m call) acts (shared_after s1 redone) same ordered))

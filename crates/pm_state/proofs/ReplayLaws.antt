@@ -1,9 +1,16 @@
 -- What the entries of a legal journal keep, of what is due and of the machine, and who is there.
 use Rattle.std.{proofs.Common.{◌≡◌, ℕ, ◌+◌, ◌≤◌, Bool, true, false, not, cond, ◌&&◌, List, [], ◌∷◌, ◌++◌, refl, sym, ◌∙◌, ap, subst, arith, append_assoc}, specs.Prelude.{IsSomeAnd, Some, nat_eq}}
-use Rattle.pm_supervisor.specs.{pm_exit.declared.child.{Kind.Kind, Status.Status}, declared.Limits.Limits, Children.{Child, child_of, count_of, one_if}, Supervisor.Shared}
+use Rattle.pm_supervisor.specs.{pm_exit.declared.child.{Kind.Kind, Status.Status}, declared.Limits.Limits, Children.{Child, child_of, count_of, one_if}, Supervisor.Shared, Shared.reopened, Steps.{RedoEnded, shared_after}}
 use Rattle.pm_state.specs.{declared.{action.Action.Action, event.PmEvent.PmEvent, machine.Machine.Machine}, Laws.RestartsSafely, Restarts.Counts, Journal.{AreLegal, Do, Due, EndRedo, Fits, FitsFirst, FollowsIn, IsLegal, Replay, all_replayed, caused, dues, dues_after, replay_begun, replayed, reported, row_of, settled, without_first}}
 use Rattle.pm_state.specs.declared.action.Action.TheVariants as act
 use Rattle.pm_state.specs.declared.event.PmEvent.TheVariants as entry
+
+-- ---- the end of redo
+
+-- as the supervisor's event
+pub reopens : (opens : Bool) (s : Shared) → reopened opens s ≡ shared_after s (RedoEnded opens)
+reopens true s = refl
+reopens false s = refl
 
 -- ---- what is due
 

@@ -6,7 +6,7 @@ use Rattle.pm_supervisor.specs.pm_modes.declared.Mode.TheVariants as mode
 use Rattle.pm_supervisor.specs.pm_admit.declared.PmState.TheVariants as state
 use Rattle.pm_supervisor.specs.declared.Ending.TheVariants as ending
 use Rattle.pm_supervisor.specs.Steps as supervisor
-use Rattle.pm_state.{specs.{declared.{action.Action.Action, event.PmEvent.PmEvent, machine.{Machine.Machine, Exit.Exit}}, Exits.{crash_rule, exited_by, less_one, startup_exited}, Facts.NothingDue, Machine.{Exited, Asked, IsReady, MayAccept, accepted_as, started_as, view_of}, Requests.{asked_with, ticked_at}, Restarts.{AreAsSet, BeginsAlone, BeginsFrom, Counts, IsAsSet, there_after, without_pid}, Starts.Owes, Transition.{Transition, transition}, TurnRules.{are_backends_gone, start_recovery, restart_writer, end_smart, stop_backends, backends_gone, dead_ends_gone, children_gone}, Journal.{AreLegal, Do, Due, EndRedo, IsLegal, Replay, all_replayed, caused, dues_after, entry_of, replay_begun, replayed, reported, row_of, settled, shown_after}}, proofs.{ReplayLaws.{acts_behind_redo, acts_in, acts_in_dues}, Counting.{Tied, accepted-tied, asked-tied, begun-tied, by-exit, by-test, exited-tied, row-tied, settled-does, settled-tied, started-tied, ticked-tied, tied-counts}, Entries.{EntryCases, by-entry}, Exits.less, Journal.is_kill, Reports.{all-done, due-first, owes-later, step-owes}, TurnCases.is_no_children, TurnJournal.{IsFirst, is-first}, ChildLaws.nobody}}
+use Rattle.pm_state.{specs.{declared.{action.Action.Action, event.PmEvent.PmEvent, machine.{Machine.Machine, Exit.Exit}}, Exits.{crash_rule, exited_by, less_one, startup_exited}, Facts.NothingDue, Machine.{Exited, Asked, IsReady, MayAccept, accepted_as, started_as, view_of}, Requests.{asked_with, ticked_at}, Restarts.{AreAsSet, BeginsAlone, BeginsFrom, Counts, IsAsSet, there_after, without_pid}, Starts.Owes, Transition.{Transition, transition}, TurnRules.{are_backends_gone, start_recovery, restart_writer, end_smart, stop_backends, backends_gone, dead_ends_gone, children_gone}, Journal.{AreLegal, Do, Due, EndRedo, IsLegal, Replay, all_replayed, caused, dues_after, entry_of, replay_begun, replayed, reported, row_of, settled, shown_after}}, proofs.{ReplayLaws.{acts_behind_redo, acts_in, acts_in_dues, reopens}, Counting.{Tied, accepted-tied, asked-tied, begun-tied, by-exit, by-test, exited-tied, row-tied, settled-does, settled-tied, started-tied, ticked-tied, tied-counts}, Entries.{EntryCases, by-entry}, Exits.less, Journal.is_kill, Reports.{all-done, due-first, owes-later, step-owes}, TurnCases.is_no_children, TurnJournal.{IsFirst, is-first}, ChildLaws.nobody}}
 use Rattle.pm_state.specs.declared.action.Action.TheVariants as act
 use Rattle.pm_state.specs.declared.action.Line.TheVariants as line
 use Rattle.pm_state.specs.declared.event.PmEvent.TheVariants as entry
@@ -439,7 +439,8 @@ due-more limits r (Do a) ds n is = λ there was.
 due-more limits r EndRedo ds n is = λ there was.
     (let kept : IsKept limits (acts_in ds) r.machine r.shown there = subst (λ (due : List Due). IsKept limits (acts_in due) r.machine r.shown there) is was in
     let e : PmEvent = entry.RedoEnded r.shown.generation n in
-    let same = redo-children (is_none r.machine.shutdown) r.shown in (
+    let opens : Bool = is_none r.machine.shutdown in
+    let same = ap (λ (s : Shared). s.children) (reopens opens r.shown) ∙ redo-children opens r.shown in (
       tt,
       tt,
       rw is (settled-kept limits (acts_in ds) r.machine (shown_after r.machine r.shown e) there (record {

@@ -15,8 +15,7 @@ use Rattle.pm_state.specs.declared.machine.StartupStatus.TheVariants as startup
 -- the startup child, once it was told to end at once
 abbrev pub signalled_of : StartupStatus → StartupStatus
 signalled_of startup.Running = startup.Signalled
-signalled_of startup.NotRunning = startup.NotRunning
-signalled_of startup.Signalled = startup.Signalled
+signalled_of other = other
 
 -- the state after a crash
 abbrev pub crashed_state : PmState → PmState
@@ -54,8 +53,7 @@ crash_rule m exit =
 -- crash_rule, unless the end of the child was a normal one
 abbrev pub unless_normal : Class → Machine → Exit → Transition
 unless_normal class.Normal m exit = transition [] m
-unless_normal class.Crash m exit = crash_rule m exit
-unless_normal class.StartupFailed m exit = crash_rule m exit
+unless_normal _ m exit = crash_rule m exit
 
 -- the machine without its startup child
 abbrev pub without_startup : Machine → PmState → Machine
@@ -80,13 +78,7 @@ abbrev pub redo_ended : Machine → Transition
 redo_ended m =
     transition
     (act.Ready ∷ act.Start kind.Checkpointer ∷ act.Start kind.Writer ∷ act.Say line.Ready ∷ [])
-    (record (without_startup m state.Run) {
-      fatal = false;
-      abort_at = None;
-      conns = true;
-      checkpointer_due = true;
-      writer_due = true;
-    })
+    (record (without_startup m state.Run) { fatal = false; abort_at = None; conns = true; checkpointer_due = true; writer_due = true })
 
 -- the end of the startup child: the first line that fits
 unfoldable pub startup_exited : Machine → Exit → Transition
@@ -107,8 +99,7 @@ is_shutdown _ = false
 -- the end of the checkpointer, by its class
 abbrev pub checkpointer_exited : Class → Machine → Exit → Transition
 checkpointer_exited class.Normal m exit = transition [] (record m { state = state.WaitDeadEnd })
-checkpointer_exited class.Crash m exit = crash_rule m exit
-checkpointer_exited class.StartupFailed m exit = crash_rule m exit
+checkpointer_exited _ m exit = crash_rule m exit
 
 -- the machine with one child of this kind less
 abbrev pub less_one : Kind → Machine → Machine

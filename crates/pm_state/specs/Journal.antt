@@ -1,10 +1,9 @@
 -- The supervisor's journal: what its entries so far leave, and which entry may follow them.
-use Rattle.std.specs.Prelude.{◌≡◌, ℕ, ◌+◌, ◌≤◌, Bool, true, false, ◌==◌, ◌&&◌, ◌||◌, if◌then◌else◌, List, [], ◌∷◌, ◌++◌, is_none, IsSomeAnd}
-use Rattle.pm_supervisor.specs.{pm_exit.{declared.child.{Status.Status, Kind.Kind}, Ends.is_exit_0}, pm_modes.Strength.is_immediate, pm_admit.{declared.PmState.PmState, Admission.decide_of}, declared.Limits.Limits, Children.{is_startup_child, child_of}, Supervisor.{Shared, first}, Steps.shared_after}
+use Rattle.std.specs.Prelude.{◌≡◌, ℕ, ◌+◌, ◌≤◌, Bool, true, false, ◌==◌, ◌&&◌, ◌||◌, if◌then◌else◌, List, [], ◌∷◌, ◌++◌, map, None, Some, is_none, IsSomeAnd}
+use Rattle.pm_supervisor.specs.{pm_exit.{declared.child.{Status.Status, Kind.Kind}, Ends.is_exit_0}, pm_modes.Strength.{is_immediate, strengthen_of}, pm_admit.{declared.PmState.PmState, Admission.decide_of}, declared.Limits.Limits, Children.{is_startup_child, child_of, without}, Supervisor.{Shared, first_shared}, Shared.{reopened, with_child}, Steps.kind_for}
 use Rattle.pm_supervisor.specs.pm_modes.declared.Mode.TheVariants as mode
 use Rattle.pm_supervisor.specs.pm_admit.declared.PmState.TheVariants as state
-use Rattle.pm_supervisor.specs.Steps as supervisor
-use Rattle.pm_state.specs.{declared.{action.{Action.Action, Line.Line}, event.PmEvent.PmEvent, machine.Machine.Machine}, Transition.{Transition, transition}, Requests.ticked_at, TurnRules.{start_recovery, restart_writer, end_smart, stop_backends, backends_gone, dead_ends_gone, children_gone}, Machine.{Accepted, Exited, Asked, Ticked, Turned, step, begun, view_of, started_as, MayAccept, IsCounted}, Shows.{Call, Accepts, Exits, Asks, Ticks, TakesTurn, machine_after}}
+use Rattle.pm_state.specs.{declared.{action.{Action.Action, Line.Line}, event.PmEvent.PmEvent, machine.Machine.Machine}, Transition.{Transition, transition}, Exits.exited_by, Requests.{asked_with, ticked_at}, TurnRules.{start_recovery, restart_writer, end_smart, stop_backends, backends_gone, dead_ends_gone, children_gone}, Machine.{Accepted, Exited, Asked, Ticked, Turned, step, accepted_as, begun, view_of, started_as, MayAccept, IsCounted}, Shows.{Call, Accepts, Exits, Asks, Ticks, TakesTurn, machine_after}}
 use Rattle.pm_state.specs.declared.action.Action.TheVariants as act
 use Rattle.pm_state.specs.declared.event.PmEvent.TheVariants as entry
 
@@ -29,7 +28,7 @@ last_pid = 2147480000
 
 abbrev pub replay_begun : Limits → Replay
 replay_begun limits =
-    record { machine = begun limits; shown = first.shared; due = []; asks_smart = false; moment = 0 }
+    record { machine = begun limits; shown = first_shared; due = []; asks_smart = false; moment = 0 }
 
 -- the moves that leave no entry, once their condition holds: after a crash or an immediate request, when the sessions and
 -- the background children are gone; and when no child is left
@@ -56,16 +55,16 @@ row_of m = row_in m.state m
 
 -- what the machine does where this entry is no act that is due
 abbrev pub caused : Machine → PmEvent → Transition
-caused m (entry.Accepted pid decision) = step m Accepted
-caused m (entry.Exited pid kind status was_active at) = step m (Exited pid kind status was_active at)
-caused m (entry.Asked mode at) = step m (Asked mode at)
+caused m (entry.Accepted pid decision) = transition [] (accepted_as (decide_of (view_of m)) m)
+caused m (entry.Exited pid kind status was_active at) =
+    exited_by kind m (record { pid = pid; kind = kind; status = status; now = at }) was_active
+caused m (entry.Asked mode at) = asked_with (strengthen_of m.shutdown mode) m at
 caused m (entry.KillAsked pid) = transition [] m
-caused m (entry.KillSent at) = step m (Ticked at)
+caused m (entry.KillSent at) = ticked_at m.abort_at m at
 caused m _ = row_of m
 
 abbrev pub dues : List Action → List Due
-dues [] = []
-dues (action ∷ actions) = Do action ∷ dues actions
+dues actions = map Do actions
 
 abbrev pub without_first : List Action → List Action
 without_first [] = []
@@ -78,8 +77,8 @@ redo_dues kind status = if is_startup_child kind && is_exit_0 status then EndRed
 abbrev pub dues_after : Machine → PmEvent → List Due
 dues_after m (entry.Accepted pid decision) = []
 dues_after m (entry.Exited pid kind status was_active at) =
-    redo_dues kind status ++ dues (step m (Exited pid kind status was_active at)).acts
-dues_after m (entry.Asked mode at) = dues (step m (Asked mode at)).acts
+    redo_dues kind status ++ dues (caused m (entry.Exited pid kind status was_active at)).acts
+dues_after m (entry.Asked mode at) = dues (caused m (entry.Asked mode at)).acts
 dues_after m (entry.KillAsked pid) = []
 dues_after m (entry.KillSent at) = []
 dues_after m _ = dues (without_first (row_of m).acts)
@@ -98,12 +97,12 @@ reported (entry.Started pid kind) m = started_as kind m
 reported _ m = m
 
 abbrev pub shown_after : Machine → Shared → PmEvent → Shared
-shown_after m s (entry.Accepted pid decision) = shared_after s (supervisor.Accept pid decision)
-shown_after m s (entry.Started pid kind) = shared_after s (supervisor.Start pid kind)
-shown_after m s (entry.Exited pid kind status was_active at) = shared_after s (supervisor.Exit pid kind status was_active)
-shown_after m s (entry.QuitSent why) = shared_after s (supervisor.Notice why)
-shown_after m s (entry.RedoEnded generation kept) = shared_after s (supervisor.RedoEnded (is_none m.shutdown))
-shown_after m s (entry.Reset generation) = shared_after s supervisor.Reset
+shown_after m s (entry.Accepted pid decision) = with_child pid (kind_for decision) s
+shown_after m s (entry.Started pid kind) = with_child pid kind s
+shown_after m s (entry.Exited pid kind status was_active at) = record s { children = without pid s.children }
+shown_after m s (entry.QuitSent why) = record s { noticed = Some why }
+shown_after m s (entry.RedoEnded generation kept) = reopened (is_none m.shutdown) s
+shown_after m s (entry.Reset generation) = record s { generation = s.generation + 1; is_open = false; noticed = None }
 shown_after m s _ = s
 
 abbrev pub asks_after : Bool → PmEvent → Bool

@@ -10,15 +10,14 @@ use Rattle.pm_state.specs.{declared.machine.Machine.Machine, Transition.{Transit
 
 -- what the decision on a connection looks at
 abbrev pub view_of : Machine → View
-view_of m =
-    record {
-      state = m.state;
-      shutdown = is_some m.shutdown;
-      fatal = m.fatal;
-      conns = m.conns;
-      children = m.children;
-      limit = 2 * (m.limits.max_connections + m.limits.max_worker_processes);
-    }
+view_of m = record {
+  state = m.state;
+  shutdown = is_some m.shutdown;
+  fatal = m.fatal;
+  conns = m.conns;
+  children = m.children;
+  limit = 2 * (m.limits.max_connections + m.limits.max_worker_processes);
+}
 
 -- a connection is accepted, by the decision on it
 abbrev pub accepted_as : Cac → Machine → Machine
@@ -53,24 +52,23 @@ step m Turned = turned_of m
 
 -- the machine before anything happened
 abbrev pub begun : Limits → Machine
-begun limits =
-    record {
-      limits = limits;
-      state = state.Init;
-      shutdown = None;
-      fatal = false;
-      conns = false;
-      startup = startup.NotRunning;
-      children = 0;
-      dead_ends = 0;
-      checkpointer = false;
-      writer = false;
-      abort_at = None;
-      ended = false;
-      startup_due = false;
-      checkpointer_due = false;
-      writer_due = false;
-    }
+begun limits = record {
+  limits = limits;
+  state = state.Init;
+  shutdown = None;
+  fatal = false;
+  conns = false;
+  startup = startup.NotRunning;
+  children = 0;
+  dead_ends = 0;
+  checkpointer = false;
+  writer = false;
+  abort_at = None;
+  ended = false;
+  startup_due = false;
+  checkpointer_due = false;
+  writer_due = false;
+}
 
 -- no end was given, and no start that was given is unreported
 pub record IsReady (m : Machine) : Type 0 where

@@ -1,5 +1,5 @@
 -- Restarts, as a journal tells of them. The manual: 20.14 "Error Handling".
-use Rattle.std.specs.Prelude.{◌≡◌, ◌≢◌, ℕ, Bool, true, false, not, ◌==◌, ◌&&◌, ◌||◌, if◌then◌else◌, List, [], ◌∷◌}
+use Rattle.std.specs.{Prelude.{◌≡◌, ◌≢◌, ℕ, Bool, true, false, not, ◌==◌, ◌&&◌, ◌||◌, if◌then◌else◌, List, [], ◌∷◌}, List.AllByRecursion}
 use Rattle.pm_supervisor.specs.{pm_exit.{declared.child.{Kind.Kind, Status.Status}, Ends.class_of}, pm_admit.declared.Cac.TheVariants.Ok as Admitted, declared.Limits.Limits, Children.{Child, is_session, is_startup_child, is_checkpointer, is_writer, is_dead_end, count_of, one_if}, Steps.is_normal}
 use Rattle.pm_supervisor.specs.declared.Ending.TheVariants as ending
 use Rattle.pm_state.specs.{declared.{event.PmEvent.PmEvent, machine.Machine.Machine}, TurnRules.is_not_running}
@@ -58,8 +58,7 @@ IsAsSet limits (entry.Ended ending.RestartOff) = limits.restart_after_crash ≡ 
 IsAsSet limits _ = Unit {0}
 
 abbrev pub AreAsSet : Limits → List PmEvent → Type 0
-AreAsSet limits [] = Unit {0}
-AreAsSet limits (e ∷ journal) = IsAsSet limits e × AreAsSet limits journal
+AreAsSet limits journal = AllByRecursion (IsAsSet limits) journal
 
 -- all of it
 

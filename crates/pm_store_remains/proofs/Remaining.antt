@@ -1,9 +1,9 @@
 -- What is left of a store, by what its own laws keep.
 use Rattle.std.{proofs.{Common.{◌≡◌, ◌⊎◌, inl, inr, ℕ, List, [], Option, None, Some, refl, sym, ◌∙◌, ap, subst, arith}, Math.Logic.∥∥₁_map, lemmas.Bool.true≢false}, specs.Prelude.{true, IfSome}}
 use Rattle.std.specs.FinMap as finite
-use Rattle.pm_server.{specs.{pm_disk.Files.Files, pm_query.{Book.{Base, faults_here, generation_of, history_of, is_closed}, Durable.IsDurable, declared.book.BookEntry.BookEntry}, pm_segment.{declared.segment.Segment.Segment, Moment.{Moment, Told, book_of, disk_of, moment}, Redos.IsCleanAt, Runs.{CanBeRead, IsReplay, IsRun, StaysClean}, Stands.{Begins, GoesFrom, HasBegun, HasWaited, IsBaseOf, IsOpening, IsSure as IsSureAt, Origin, WaitsFrom}}, Ends.AreHandedIn, Story.IsClean, Views.DiskView}, proofs.{StoryLaws.{RestsAt, clean_told, left_told, no_answers, origin_of, view_at, where_told}, UnredoneLaws.unredone}}
+use Rattle.pm_server.{specs.{pm_disk.Files.Files, pm_query.{Book.{Base, faults_here, generation_of, history_of, is_closed}, Durable.IsDurable, declared.book.BookEntry.BookEntry}, pm_segment.{declared.segment.Segment.Segment, Moment.{Moment, Told, book_of, disk_of, moment}, Redos.IsCleanAt, Runs.{CanBeRead, IsReplay, IsRun, StaysClean}, Stands.{Begins, GoesFrom, HasBegun, HasWaited, IsBaseOf, IsOpening, IsSure as IsSureAt, Origin, WaitsFrom}}, Ends.AreHandedIn, Story.{AreLeftClean, IsClean}, Views.{DiskView, disk_view}}, proofs.{StoryLaws.{RestsAt, clean_told, left_told, no_answers, origin_of, view_at, where_told}, UnredoneLaws.unredone}}
 use Rattle.pm_store_shared.specs.{pm_record.{OnDisk.GoesOn, Pair.Means}, Behind.Behind}
-use Rattle.pm_store_remains.specs.Remains.{AreClean, AreReadable, IsLeft, IsSure, Remains, disk_view}
+use Rattle.pm_store_remains.specs.Remains.{AreReadable, IsLeft, IsSure, Remains}
 
 -- ---- where both tell, by which that is told
 
@@ -64,13 +64,13 @@ going first at log time generation rests base faults found replay its_run stays 
   read = readable at.files refl reads;
 }
   where
-    left_clean : (files : Option Files) → at.files ≡ files → is_closed log ≡ true → faults_here log ≡ Some [] → IfSome at.files (AreClean base log (view_at at))
-    left_clean None is closed here = subst (λ (x : Option Files). IfSome x (AreClean base log (view_at at))) (sym is) tt
+    left_clean : (files : Option Files) → at.files ≡ files → is_closed log ≡ true → faults_here log ≡ Some [] → IfSome at.files (AreLeftClean (history_of base log) (view_at at))
+    left_clean None is closed here = subst (λ (x : Option Files). IfSome x (AreLeftClean (history_of base log) (view_at at))) (sym is) tt
     left_clean (Some f) is closed here =
         let clean : (epoch : ℕ) × IsCleanAt epoch at.live at.rows at.files = stays (inr (f, is)) closed here in
         let reads_so = subst (λ (x : Option Files). IfSome x (λ g. ∥ IsClean (history_of base log) g ∥₁)) is (clean_told base at log clean.0 at.files refl begun clean.1) in
         let leaves_so = subst (λ (x : Option Files). IfSome x (λ _. (image : Files) → at.images at.ticks image → ∥ IsClean (history_of base log) image ∥₁)) is (left_told base at log clean.0 at.files refl rests begun clean.1) in
-        subst (λ (x : Option Files). IfSome x (AreClean base log (view_at at))) (sym is) (reads_so, leaves_so)
+        subst (λ (x : Option Files). IfSome x (AreLeftClean (history_of base log) (view_at at))) (sym is) (reads_so, leaves_so)
 
     readable : (files : Option Files) → at.files ≡ files → IfSome files (λ _. CanBeRead at) → IfSome at.files (λ f. AreHandedIn log first (view_at at) ⊎ AreReadable f)
     readable None is can = subst (λ (x : Option Files). IfSome x (λ f. AreHandedIn log first (view_at at) ⊎ AreReadable f)) (sym is) tt

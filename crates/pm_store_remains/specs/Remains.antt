@@ -1,22 +1,11 @@
 -- What is left of a store, after all that was noted since it was opened over a disk.
 use Rattle.std.specs.Prelude.{◌≡◌, ◌⊎◌, ◌≤◌, true, false, List, [], All, Option, Some, IfSome}
-use Rattle.pm_server.specs.{pm_disk.Files.Files, pm_segment.{pm_redo.Found.IsReason, Moves.IsShown, Redos.SaysNothing, Unread.has_redo}, pm_query.{declared.book.BookEntry.BookEntry, Book.{Base, IsLegal, faults_here, generation_of, history_of, is_closed}}, Ends.AreHandedIn, Story.{HoldsHistory, IsClean, KeepsMeaning}, Views.DiskView}
-use Rattle.pm_server.specs.pm_disk.declared.disk.Disk as Disk
+use Rattle.pm_server.specs.{pm_disk.Files.Files, pm_segment.{pm_redo.Found.IsReason, Moves.IsShown, Redos.SaysNothing, Unread.has_redo}, pm_query.{declared.book.BookEntry.BookEntry, Book.{Base, IsLegal, faults_here, generation_of, history_of, is_closed}}, Ends.AreHandedIn, Story.{AreLeftClean, HoldsHistory, KeepsMeaning}, Views.DiskView}
 use Rattle.pm_store_shared.specs.pm_record.{OnDisk.GoesOn, declared.fault.RedoFault.RedoFault}
-
--- what is told of a disk
-abbrev pub disk_view : {D : Type 0} → Disk.Ghosts D → D → DiskView
-disk_view g disk = record { files = g.seen disk; images = g.images disk; ticks = g.ticks disk; faults = g.faults disk }
 
 -- it is the first generation, or the disk tells its files
 abbrev pub IsSure : List BookEntry → Option Files → Type 0
 IsSure log files = (generation_of log ≡ 1) ⊎ ((its : Files) × (files ≡ Some its))
-
--- the files mean all commits of the history, and the log is clean; so does whatever a stop leaves
-abbrev pub AreClean : Base → List BookEntry → DiskView → Files → Type 0
-AreClean base log now files =
-    ∥ IsClean (history_of base log) files ∥₁
-    × ((image : Files) → now.images now.ticks image → ∥ IsClean (history_of base log) image ∥₁)
 
 -- a redo of these files is refused by a fault of the disk, or for want of memory, alone
 abbrev pub AreReadable : Files → Type 0
@@ -30,7 +19,7 @@ pub record IsLeft (first now : DiskView) (log : List BookEntry) : Type 0 where
   pub faults_are : base.faults ≡ first.faults
   pub legal : IsSure log now.files → IsLegal base log
   pub stops : KeepsMeaning log first now ⊎ HoldsHistory base log first now
-  pub clean : is_closed log ≡ true → faults_here log ≡ Some [] → IfSome now.files (AreClean base log now)
+  pub clean : is_closed log ≡ true → faults_here log ≡ Some [] → IfSome now.files (AreLeftClean (history_of base log) now)
   pub read : IfSome now.files (λ files. AreHandedIn log first now ⊎ AreReadable files)
 
 -- The same where the book needn't tell: no stop leaves of an earlier tick what it couldn't leave then, each fault that was noted has

@@ -2,7 +2,8 @@
 
 ghost use Rattle.std.specs.Prelude.{List};
 ghost use Rattle.pm_store_shared.specs.{pm_query.declared.book.BookEntry.BookEntry, Behind.Behind};
-ghost use Rattle.pm_store_remains.specs.Remains.{Remains, disk_view};
+ghost use Rattle.pm_server.specs.Views.{disk_view};
+ghost use Rattle.pm_store_remains.specs.Remains.{Remains};
 
 use pm_disk::Disk;
 use pm_outside::Chronicle;

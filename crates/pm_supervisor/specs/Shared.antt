@@ -1,6 +1,6 @@
 -- What the supervisor and its children share, and what may happen to it, without phase, request, decision or journal: the
 -- board of child slots shows no more than this, and each of its steps is one of these events or none.
-use Rattle.std.specs.{Prelude.{◌≡◌, ◌≢◌, ℕ, ◌+◌, ◌<◌, ◌≤◌, true, false, List, [], ◌∷◌, Option, Some, None, IsSomeAnd}, List.AllByRecursion}
+use Rattle.std.specs.{Prelude.{◌≡◌, ◌≢◌, ℕ, ◌+◌, ◌<◌, ◌≤◌, Bool, true, false, if◌then◌else◌, List, [], ◌∷◌, Option, Some, None, IsSomeAnd}, List.AllByRecursion}
 use Rattle.pm_exit.specs.declared.child.Kind.{Kind}
 use Rattle.pm_supervisor.specs.{declared.Reason.Reason, Children.{Child, is_session, is_startup_child, is_dead_end, child_of, without, marked, count_of, attached_sessions}, Supervisor.Shared}
 
@@ -39,10 +39,7 @@ Allows limit s Reset = s.children ≡ []
 
 abbrev pub with_child : ℕ → Kind → Shared → Shared
 with_child pid kind s =
-    record s {
-      children = record { pid = pid; kind = kind; generation = s.generation; attached = false } ∷ s.children;
-      last_pid = pid;
-    }
+    record s { children = record { pid = pid; kind = kind; generation = s.generation; attached = false } ∷ s.children; last_pid = pid }
 
 abbrev pub after_shared : Shared → SharedEvent → Shared
 after_shared s (Join pid kind) = with_child pid kind s
@@ -53,6 +50,10 @@ after_shared s (Leave pid kind) = record s { children = without pid s.children }
 after_shared s (Notice why) = record s { noticed = Some why }
 after_shared s Open = record s { is_open = true; noticed = None }
 after_shared s Reset = record s { generation = s.generation + 1; is_open = false; noticed = None }
+
+-- the end of redo opens the generation, or doesn't
+abbrev pub reopened : Bool → Shared → Shared
+reopened opens s = if opens then record s { is_open = true; noticed = None } else s
 
 abbrev pub after_any : Shared → Option SharedEvent → Shared
 after_any s None = s

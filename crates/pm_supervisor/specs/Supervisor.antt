@@ -25,11 +25,8 @@ pub record Supervisor : Type 0 where
   pub shared : Shared
 
 -- before anything happened
+abbrev pub first_shared : Shared
+first_shared = record { generation = 1; is_open = false; noticed = None; children = []; last_pid = 0 }
+
 abbrev pub first : Supervisor
-first =
-    record {
-      phase = Init;
-      crash = false;
-      request = None;
-      shared = record { generation = 1; is_open = false; noticed = None; children = []; last_pid = 0 };
-    }
+first = record { phase = Init; crash = false; request = None; shared = first_shared }

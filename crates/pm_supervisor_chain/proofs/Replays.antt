@@ -2,7 +2,7 @@
 -- those that ended are gone for good.
 use Rattle.std.{proofs.{Common.{◌≡◌, ℕ, ◌+◌, ◌<◌, ◌≤◌, nat_eq, cond, Bool, true, false, List, [], ◌∷◌, ◌++◌, Some, None, refl, arith, ap, sym, ◌∙◌, subst, inl, append_assoc}, lemmas.Bool.eqb-true}, specs.{Prelude.{IsSomeAnd, is_none}, List.AllByRecursion}}
 use Rattle.pm_query.specs.pm_facts.Lists.{each_both}
-use Rattle.pm_state.{specs.{pm_exit.declared.child.Kind.Kind, pm_admit.declared.Cac.Cac, pm_supervisor.{declared.Limits.Limits, Children.{Child, child_of, without, is_dead_end}, Supervisor.Shared, Shared.with_child, Steps.{shared_after, kind_for, RedoEnded, Reset}}, declared.{action.Action.Action, event.PmEvent.PmEvent, machine.Machine.Machine}, Journal.{Due, Do, EndRedo, Replay, AreLegal, Fits, FitsFirst, Follows, FollowsIn, IsLegal, MayCome, all_replayed, replay_begun, replayed, row_of, shown_after}}, proofs.pm_supervisor.RunLaws.each-without}
+use Rattle.pm_state.{specs.{pm_exit.declared.child.Kind.Kind, pm_admit.declared.Cac.Cac, pm_supervisor.{declared.Limits.Limits, Children.{Child, child_of, without, is_dead_end}, Supervisor.Shared, Shared.with_child, Shared.reopened, Steps.{shared_after, kind_for, RedoEnded, Reset}}, declared.{action.Action.Action, event.PmEvent.PmEvent, machine.Machine.Machine}, Journal.{Due, Do, EndRedo, Replay, AreLegal, Fits, FitsFirst, Follows, FollowsIn, IsLegal, MayCome, all_replayed, replay_begun, replayed, row_of, shown_after}}, proofs.pm_supervisor.RunLaws.each-without}
 use Rattle.pm_state.specs.pm_exit.declared.child.Kind.TheVariants as kind
 use Rattle.pm_state.specs.pm_admit.declared.Cac.TheVariants as decision
 use Rattle.pm_state.specs.declared.action.Action.TheVariants as act
@@ -211,7 +211,7 @@ known-exited t s pid k there known =
           (all_map _ _ (λ c of_c serves. among_left (child_in c) t.users [] (of_c serves)) s.children known.users);
     }
 
-known-redone : (b : Bool) (t : Tells) (s : Shared) → Known t s → Known (told_behind t []) (shared_after s (RedoEnded b))
+known-redone : (b : Bool) (t : Tells) (s : Shared) → Known t s → Known (told_behind t []) (reopened b s)
 known-redone true t s known = known-same t s _ refl refl refl known
 known-redone false t s known = known-same t s s refl refl refl known
 

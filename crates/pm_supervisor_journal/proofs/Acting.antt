@@ -1,8 +1,8 @@
 -- The acts of a call are done one by one.
 use Rattle.std.{proofs.{Common.{◌≡◌, ℕ, ◌+◌, ◌≤◌, Bool, true, false, ◌||◌, nat_eq, List, [], ◌∷◌, ◌++◌, Some, None, refl, ap, sym, ◌∙◌, subst, arith}, lemmas.Bool.Decides.nat_tests}, specs.Prelude.{Option, IfSome, is_none, is_some, ◌<◌}}
-use Rattle.pm_state.specs.{pm_exit.declared.child.Kind.Kind, declared.{action.Action.Action, event.PmEvent.PmEvent, machine.Machine.Machine}, Machine.started_as, Journal.{Replay, Do, AreLegal, Follows, without_first, asks_after, moment_after, all_replayed, replayed, replay_begun, dues, entry_of, entries_of, all_reported, last_pid, shown_after, settled}, InStep.{IsInStep, server_state}, Starts.{Owes, has_end, starts_in}, Laws.{TellsOfEachStart, WritesALegalJournal}}
+use Rattle.pm_state.{specs.{pm_exit.declared.child.Kind.Kind, declared.{action.Action.Action, event.PmEvent.PmEvent, machine.Machine.Machine}, Machine.started_as, Journal.{Replay, Do, AreLegal, Follows, without_first, asks_after, moment_after, all_replayed, replayed, replay_begun, dues, entry_of, entries_of, all_reported, last_pid, shown_after, settled}, InStep.{IsInStep, server_state}, Starts.{Owes, has_end, starts_in}, Laws.{TellsOfEachStart, WritesALegalJournal}}, proofs.ReplayLaws.reopens}
 use Rattle.pm_state.specs.pm_exit.declared.child.Kind.TheVariants as kind
-use Rattle.pm_supervisor.{specs.{declared.Limits.Limits, Supervisor.Shared, Steps.{Trace, kind_for, shared_after}}, proofs.RunLaws.redo-children}
+use Rattle.pm_supervisor.{specs.{declared.Limits.Limits, Supervisor.Shared, Shared.reopened, Steps.{Trace, kind_for}}, proofs.RunLaws.redo-children}
 use Rattle.pm_supervisor.specs.Steps as supervisor
 use Rattle.pm_state.specs.declared.action.Action.TheVariants as act
 use Rattle.pm_state.specs.declared.event.PmEvent.TheVariants as entry
@@ -154,11 +154,11 @@ pids-next (act.End how) rest s due pids = pids-keep s (done (act.End how) s) ref
 
 -- what is remembered
 
-redo-last : (b : Bool) (s : Shared) → (shared_after s (supervisor.RedoEnded b)).last_pid ≡ s.last_pid
+redo-last : (b : Bool) (s : Shared) → (reopened b s).last_pid ≡ s.last_pid
 redo-last true s = refl
 redo-last false s = refl
 
-redo-generation : (b : Bool) (s : Shared) → (shared_after s (supervisor.RedoEnded b)).generation ≡ s.generation
+redo-generation : (b : Bool) (s : Shared) → (reopened b s).generation ≡ s.generation
 redo-generation true s = refl
 redo-generation false s = refl
 
@@ -173,7 +173,7 @@ children-noted m s (entry.QuitSent why) cs is = is
 children-noted m s entry.TerminateSent cs is = is
 children-noted m s (entry.KillSent at) cs is = is
 children-noted m s entry.CheckpointAsked cs is = is
-children-noted m s (entry.RedoEnded generation kept) cs is = is ∙ ap roll_of (sym (redo-children (is_none m.shutdown) s))
+children-noted m s (entry.RedoEnded generation kept) cs is = is ∙ ap roll_of (sym (ap (λ (t : Shared). t.children) (reopens (is_none m.shutdown) s) ∙ redo-children (is_none m.shutdown) s))
 children-noted m s (entry.Ready generation) cs is = is
 children-noted m s (entry.Reset generation) cs is = is
 children-noted m s (entry.Said line) cs is = is

@@ -1,5 +1,5 @@
 -- The moments of a journal.
-use Rattle.std.specs.Prelude.{ℕ, List, [], ◌∷◌}
+use Rattle.std.specs.{Prelude.{ℕ, List}, List.AllByRecursion}
 use Rattle.pm_state.specs.declared.event.PmEvent.{PmEvent}
 use Rattle.pm_state.specs.declared.event.PmEvent.TheVariants as entry
 
@@ -12,5 +12,4 @@ IsGiven Gives _ = Unit {0}
 
 -- and so is that of each
 abbrev pub AreGiven : (ℕ → Type 0) → List PmEvent → Type 0
-AreGiven Gives [] = Unit {0}
-AreGiven Gives (e ∷ es) = IsGiven Gives e × AreGiven Gives es
+AreGiven Gives journal = AllByRecursion (IsGiven Gives) journal

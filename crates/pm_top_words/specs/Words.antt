@@ -84,14 +84,7 @@ pub record Chosen : Type 0 where
 
 abbrev pub nothing : Chosen
 nothing =
-    record {
-      dir = None;
-      port = None;
-      max_connections = None;
-      restart_after_crash = None;
-      authentication_seconds = None;
-      number = None;
-    }
+    record { dir = None; port = None; max_connections = None; restart_after_crash = None; authentication_seconds = None; number = None }
 
 -- this option wasn't given yet
 abbrev pub IsOpen : Choice → Chosen → Type 0
@@ -118,20 +111,19 @@ MayChoose verb choice chosen = IsFor verb choice × IsOpen choice chosen
 abbrev pub Choose : Verb → (before : Chosen) → List Choice → (words : List (List ℕ)) → (after : Chosen) → Type 0
 Choose verb before [] words after = (words ≡ []) × (after ≡ before)
 Choose verb before (choice ∷ choices) words after =
-    (first : List (List ℕ)) × (rest : List (List ℕ)) × (words ≡ first ++ rest) × Spells choice first × MayChoose verb choice before
+    (first : List (List ℕ)) × (rest : List (List ℕ)) × (words ≡ first ++ rest) × Spells choice first × (IsFor verb choice × IsOpen choice before)
     × Choose verb (with_choice choice before) choices rest after
 
 -- what a server goes by: by default up to 20 connections, a restart after a crash, and 60 seconds for a client to log in
 abbrev pub conf_of : Chosen → Conf
-conf_of chosen =
-    record {
-      limits = record {
-        max_connections = unwrap_or chosen.max_connections 20;
-        max_worker_processes = 0;
-        restart_after_crash = unwrap_or chosen.restart_after_crash true;
-      };
-      session = record { authentication_ms = unwrap_or chosen.authentication_seconds 60 * 1000 };
-    }
+conf_of chosen = record {
+  limits = record {
+    max_connections = unwrap_or chosen.max_connections 20;
+    max_worker_processes = 0;
+    restart_after_crash = unwrap_or chosen.restart_after_crash true;
+  };
+  session = record { authentication_ms = unwrap_or chosen.authentication_seconds 60 * 1000 };
+}
 
 -- what the program is asked to do, where the options are there that the command wants
 abbrev pub command_of : Verb → Chosen → Option Command

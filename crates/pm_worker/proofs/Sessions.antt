@@ -1,6 +1,6 @@
 -- The run of a session, from what its serving tells.
-use Rattle.std.{proofs.Common.{ℕ, ◌≡◌, ◌⊎◌, ◌<◌, ◌≤◌, true, false, List, Option, Some, None, sym, refl, subst}, specs.{Prelude.is_some, Option.option_map}}
-use Rattle.pm_session.specs.{pm_outside.{pm_disk.Cause.Rose, Traffic.Traffic}, pm_admit.declared.Cac.Cac, pm_child_life.Life.nothing_told, pm_query.{declared.book.BookEntry.BookEntry, Calls.newcomer}, pm_session_exchange.{declared.ending.{Cause.{Cause, TheVariants.{Terminated, Cancelling, LinkEnded, LinkFailed, TimedOut, PacketRefused, MessageRefused, DecisionRefused, GateRefused, ShortOfMemory, Panicked, ToldToTerminate, ToldToQuit, Killed, Overtaken}}, Stage.{Stage, TheVariants.{Outside, Entering, Greeted}}}, Answers.IsOvertakenBy, Exchange.CutsOff, Sent.Turn, Ends.{status_by, LetsGo}}, Session.{Ending, status_of, between, IsAttachedAt, HasPassed, IsSession, IsCaused, HasAskedFor, HeedsTold, IsAttachedBehind, HasCancelled}}
+use Rattle.std.{proofs.Common.{ℕ, ◌≡◌, ◌⊎◌, ◌<◌, ◌≤◌, true, false, List, Option, Some, None, sym, refl, subst, arith}, specs.{Prelude.is_some, Option.option_map}}
+use Rattle.pm_session.specs.{pm_outside.{pm_disk.Cause.Rose, Traffic.Traffic}, pm_admit.declared.Cac.Cac, pm_child_life.Life.nothing_told, pm_query.{declared.book.BookEntry.BookEntry, Calls.newcomer}, pm_session_exchange.{declared.ending.{Cause.{Cause, TheVariants.{Terminated, Cancelling, LinkEnded, LinkFailed, TimedOut, PacketRefused, MessageRefused, DecisionRefused, GateRefused, ShortOfMemory, Panicked, ToldToTerminate, ToldToQuit, Killed, Overtaken}}, Stage.{Stage, TheVariants.{Outside, Entering, Greeted}}}, Answers.IsOvertakenBy, Exchange.CutsOff, Sent.Turn, Ends.{status_by, LetsGo}}, Session.{Ending, status_of, between, ByStage, HasPassed, IsSession, IsCaused, HasAskedFor, HeedsTold, IsAttachedBehind, HasCancelled}}
 use Rattle.pm_board.specs.{pm_exit.{declared.child.Status.Status, Ends.is_exit_0}, pm_keys.CancelKey.cancel_key, declared.views.{Cancel.Cancel, Heard.Heard, LatchLook.LatchLook, Offer.Offer}, Told.past_child}
 use Rattle.pm_board_life.specs.Lives.{told_by, child_as}
 use Rattle.pm_worker.specs.{declared.mail.{LinkTold.LinkTold, MailTold.MailTold}, Mails.{traffic_in, traffic_of, passed_of}, Runs.IsSessionRun}
@@ -34,7 +34,7 @@ by_cause Killed a stays h is = refl
 by_cause Overtaken a stays h is = refl
 
 -- a session that ends attached doesn't exit with code 0
-pub stays_inside : (stage : Stage) (cause : Cause) (attached : Option ℕ) (stays : Type 0) → IsAttachedAt stage (attached ≡ None) (LetsGo cause (attached ≡ None) stays)
+pub stays_inside : (stage : Stage) (cause : Cause) (attached : Option ℕ) (stays : Type 0) → ByStage stage (attached ≡ None) (LetsGo cause (attached ≡ None) stays)
     → is_some attached ≡ true → is_exit_0 (status_by cause) ≡ false
 stays_inside Outside cause a stays h is = absurd (absent a h is)
 stays_inside Entering cause a stays h is = by_cause cause a stays h is
@@ -46,7 +46,7 @@ module _ {S : Type 0} (notes : List BookEntry → S → S → Type 0) (stamp : O
       → traffic_in back ≡ traffic → pid ≡ o.pid → (0 < pid → key ≡ cancel_key seed pid) → back.number ≡ link.number → link.faults ≤ back.faults → status ≡ status_of ending
       → IsSession notes decision (newcomer stamp pid generation) key turns ending (Rose link.faults back.faults) (between traffic s0 s1)
       → IsCaused ending turns generation decision traffic (Rose link.faults back.faults) (Some (told_by heard asked)) limit gives
-      → HasAskedFor turns (Some nothing_told) (Some (told_by heard asked)) → HeedsTold status (told_by heard asked) → IsAttachedBehind ending generation (child_as o attached)
+      → HasAskedFor turns (Some nothing_told) (Some (told_by heard asked)) → HeedsTold status (told_by heard asked) → IsAttachedBehind ending generation attached
       → HasCancelled ending.cause traffic (Some (told_by heard asked)) → IsOvertakenBy met generation ending.exit
       → (noted : List BookEntry) × notes noted s0 s1
       × IsSessionRun stamp seed limit gives link decision
@@ -78,7 +78,7 @@ module _ {S : Type 0} (notes : List BookEntry → S → S → Type 0) (stamp : O
           status = st;
           session = whole;
           caused = subst (λ x. IsCaused ending turns generation decision x (Rose link.faults back.faults) (Some (told_by heard asked)) limit gives) (sym t) caused;
-          asked = hears;
+          asked = omega (arith, hears);
           heeds = heeds;
           active = refl;
           behind = behind;

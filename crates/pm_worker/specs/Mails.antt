@@ -12,24 +12,10 @@ use Rattle.pm_worker.specs.declared.mail.MailTold.TheVariants as told
 -- ---- what it tells
 
 abbrev pub passed_of : Traffic → Passed
-passed_of t = record {
-  came_in = t.came_in;
-  went_out = t.went_out;
-  ended = t.ended;
-  waits = t.waits;
-  failed = t.failed;
-  went_on = t.went_on;
-}
+passed_of t = record { came_in = t.came_in; went_out = t.went_out; ended = t.ended; waits = t.waits; failed = t.failed; went_on = t.went_on }
 
 abbrev pub traffic_of : Passed → Traffic
-traffic_of p = record {
-  came_in = p.came_in;
-  went_out = p.went_out;
-  ended = p.ended;
-  waits = p.waits;
-  failed = p.failed;
-  went_on = p.went_on;
-}
+traffic_of p = record { came_in = p.came_in; went_out = p.went_out; ended = p.ended; waits = p.waits; failed = p.failed; went_on = p.went_on }
 
 -- what passed on a link, as its own clauses say it
 abbrev pub traffic_in : LinkTold → Option Traffic
@@ -58,8 +44,7 @@ IsFor told.Startup kind = kind ≡ kinds.Startup
 IsFor told.Checkpointer kind = kind ≡ kinds.Checkpointer
 IsFor told.Writer kind = kind ≡ kinds.Writer
 IsFor told.Close kind = kind ≡ kinds.DeadEnd
-IsFor (told.Served link) kind = ⊥
-IsFor (told.Aux fault kept) kind = ⊥
+IsFor _ kind = ⊥
 
 -- a number of commits comes back exactly from a startup child that exits with code 0
 pub record IsKept (kind : Kind) (status : Status) (kept : Option ℕ) : Type 0 where

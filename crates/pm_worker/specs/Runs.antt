@@ -1,6 +1,6 @@
 -- The runs of the children of one worker.
-use Rattle.std.specs.{Prelude.{◌≡◌, ◌≢◌, ℕ, ◌<◌, ◌≤◌, false, List, [], ◌∷◌, ◌++◌, map, Option, Some, None, is_some}, List.{flat_map, AllByRecursion}}
-use Rattle.pm_session.specs.{pm_outside.pm_disk.Cause.Rose, pm_admit.declared.Cac.Cac, pm_child_life.Life.{Told, nothing_told}, pm_session_exchange.{Answers.IsOvertakenBy, Sent.Turn}, Session.{Ending, status_of, between, IsSession, IsCaused, HasAskedFor, HeedsTold, IsAttachedBehind, HasCancelled}}
+use Rattle.std.specs.{Prelude.{◌≡◌, ◌≢◌, ℕ, ◌+◌, ◌<◌, ◌≤◌, ◌^◌, ◌-◌, min, length, false, List, [], ◌∷◌, ◌++◌, map, Option, Some, None, is_some}, List.{flat_map, AllByRecursion}}
+use Rattle.pm_session.specs.{pm_outside.pm_disk.Cause.Rose, pm_admit.declared.Cac.Cac, pm_child_life.Life.Told, pm_session_exchange.{Answers.IsOvertakenBy, Sent.Turn}, Session.{Ending, status_of, between, IsSession, IsCaused, HeedsTold, IsAttachedBehind, HasCancelled}}
 use Rattle.pm_board.specs.{pm_exit.declared.child.{Kind.Kind, Status.TheVariants.Code}, pm_keys.CancelKey.cancel_key, declared.views.{Cancel.Cancel, Heard.Heard, LatchLook.LatchLook, Offer.Offer, PastChild.PastChild, Work.TheVariants.{Idle, Inactive}}, Models.PostModel, Rule.no_signals, Slots.child_slots, Told.child_in}
 use Rattle.pm_board.specs.pm_exit.declared.child.Kind.TheVariants as kinds
 use Rattle.pm_aux.specs.{pm_query.{pm_record.declared.fault.RedoFault.RedoFault, declared.{book.BookEntry.BookEntry, store.StoreNo.{StoreNo, TheVariants.Redo}}, Calls.{newcomer, DiskFact, unread_for}}, Ends.IsMetBehind, Runs.IsRunOf}
@@ -82,10 +82,11 @@ module _ (stamp : Option ℕ) (seed : List ℕ) (limit : ℕ) (gives : ℕ → T
         IsSession {S = Unit {0}} (λ entries _ _. entries ≡ run.noted) decision (newcomer stamp run.child.offer.pid generation) key turns ending
         (Rose link.faults back.faults) (between (traffic_in back) tt tt)
     pub caused : IsCaused ending turns generation decision (traffic_in back) (Rose link.faults back.faults) (Some (told_in run)) limit gives
-    pub asked : HasAskedFor turns (Some nothing_told) (Some (told_in run))
+    -- it has asked for its signals once more at least than it has turns, or up to the last number
+    pub asked : min (length turns + 1) (2 ^ 64 - 1) ≤ (told_in run).asked
     pub heeds : HeedsTold run.child.status (told_in run)
     pub active : run.child.was_active ≡ is_some attached
-    pub behind : IsAttachedBehind ending generation (child_as run.child.offer attached)
+    pub behind : IsAttachedBehind ending generation attached
     pub cancels : HasCancelled ending.cause (traffic_in back) (Some (told_in run))
     pub overtaken : IsOvertakenBy run.met generation ending.exit
 
@@ -96,8 +97,7 @@ module _ (stamp : Option ℕ) (seed : List ℕ) (limit : ℕ) (gives : ℕ → T
   Does mail.Checkpointer run = IsAuxRun stamp kinds.Checkpointer run
   Does mail.Writer run = IsAuxRun stamp kinds.Writer run
   Does mail.Close run = run ≡ close_run run.slots run.met run.child.offer
-  Does (mail.Served link) run = ⊥
-  Does (mail.Aux fault kept) run = ⊥
+  Does _ run = ⊥
 
   -- A run of a child by its mail, which is one for it. It met at the gate what is right for it, and made the cancel that it asked
   -- for, where its key was right and a latch was armed for its pid, and no other.

@@ -1,6 +1,6 @@
 use Rattle.std.proofs.Common.{ℕ, ◌≡◌, ◌<◌, ◌≤◌, ◌∙◌, Some, None, refl, ap, sym, subst}
 use Rattle.pm_board.specs.{pm_exit.Ends.is_exit_0, Places.is_connection, Slots.child_slots, Told.child_in, pm_keys.CancelKey.cancel_key}
-use Rattle.pm_session.specs.{pm_child_life.Life.nothing_told, Session.{IsAttachedBehind, HasAskedFor, IsCaused, HeedsTold, HasCancelled, IsSession, between}, pm_outside.pm_disk.Cause.Rose, pm_query.Calls.newcomer}
+use Rattle.pm_session.specs.{pm_child_life.Life.{Child, nothing_told}, Session.{IsAttachedBehind, HasAskedFor, IsCaused, HeedsTold, HasCancelled, IsSession, between}, pm_outside.pm_disk.Cause.Rose, pm_query.Calls.newcomer}
 use Rattle.pm_board_life.specs.Lives.{LifeModel, beginning, child_by, child_as, attached_of, told_by, GoesOn, GoesOnFrom}
 use Rattle.pm_worker.{specs.{declared.mail.MailTold.{MailTold, TheVariants.{Serve, Served}}, Mails.link_told}, proofs.{Exits.{child_is, ends_as, may_exit, is_run, has_run, run_of}, Known.known_served, Sessions.{told_whole, stays_inside, session_run}}}
 use Rattle.pm_worker.proofs.runs.serve_one.Goals as goal
@@ -13,8 +13,8 @@ exit-requires-clause-runs g c =
     let on : GoesOn (beginning c.args.post c.args.tools.now.seed) now = subst (λ b. GoesOnFrom b now) c.requires.begun c.into_post-post.ensures.same in
     let child : child_in at.knows.work ≡ Some o = ap (λ p. child_in p.knows.work) c.into_post-post.ensures.post ∙ on.child ∙ ap child_in c.requires.started.runs in
     let s = c.serve-status.ensures.session in
-    let behind : IsAttachedBehind s.0 s.2 (child_as o (attached_of at.knows.work)) =
-    subst (IsAttachedBehind s.0 s.2) (ap (λ p. child_by p.knows.work) (sym c.into_post-post.ensures.post) ∙ child_is at.knows.work o c.into_post-post.ensures.living child) s.7 in
+    let behind : IsAttachedBehind s.0 s.2 (attached_of at.knows.work) =
+    subst (λ (x : Child). IsAttachedBehind s.0 s.2 x.attached) (ap (λ p. child_by p.knows.work) (sym c.into_post-post.ensures.post) ∙ child_is at.knows.work o c.into_post-post.ensures.living child) s.7 in
     may_exit at.knows.work o c.serve-status.result.status c.into_post-post.ensures.living child
     (λ active. ap is_exit_0 s.3 ∙ stays_inside s.0.stage s.0.exit (attached_of at.knows.work) (attached_of at.knows.work ≡ Some s.2) behind active)
 
@@ -40,8 +40,8 @@ returns g c =
     subst (λ p. GoesOn start (record { post = p; seed = life.seed; cancel = life.cancel })) (sym same) (subst (λ b. GoesOnFrom b life) c.requires.begun c.into_post-post.ensures.same) in
     let child : child_in at.knows.work ≡ Some o = on.child ∙ ap child_in begun.runs in
     let s = c.serve-status.ensures.session in
-    let behind : IsAttachedBehind s.0 s.2 (child_as o (attached_of at.knows.work)) =
-    subst (IsAttachedBehind s.0 s.2) (ap (λ p. child_by p.knows.work) (sym same) ∙ child_is at.knows.work o c.into_post-post.ensures.living child) s.7 in
+    let behind : IsAttachedBehind s.0 s.2 (attached_of at.knows.work) =
+    subst (λ (x : Child). IsAttachedBehind s.0 s.2 x.attached) (ap (λ p. child_by p.knows.work) (sym same) ∙ child_is at.knows.work o c.into_post-post.ensures.living child) s.7 in
     let tools = c.args.tools.now in
     let gives = g.C.Clock.gives tools.clock in
     let limit = tools.conf.authentication_ms in
