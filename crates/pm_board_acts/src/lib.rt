@@ -21,5 +21,6 @@ pub use chained::{
 pub use desk::{Desk, Looked};
 pub use finish::{Rest, ends_with_nobody, kill_rest, may_end_anywhere, reap_rest};
 pub use mail::Report;
+pub use meant::is_told;
 pub use seats::{reap, seat, seated};
 pub use telling::{quit_all, tell};

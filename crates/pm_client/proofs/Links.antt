@@ -1,6 +1,6 @@
 -- What passed on a link and was shown, from one moment to the next.
 use Rattle.std.{proofs.{Common.{◌≡◌, ◌∙◌, ℕ, ◌≤◌, List, [], ◌++◌, take, drop, Option, None, Some, Ok, Err, refl, sym, ap, subst, arith, append_assoc, take-append-drop}, lemmas.List.append-nil}, specs.Option.option_map}
-use Rattle.pm_outside.{specs.{pm_disk.Cause.Rose, Traffic.{Traffic, after_read, after_write, put_behind, came_in_of, went_out_of}, declared.link.{Got.{Got, TheVariants.{Bytes, End}}, Put.TheVariants.{Count, Failed as PutFailed}}, Added.Added}, proofs.{pm_disk.DiskLaws.rose_from, AddedLaws.{added_both, added_none}, TrafficLaws.{got_in, got_none, got_out, wrote_in, wrote_none, wrote_out}}}
+use Rattle.pm_outside.{specs.{pm_disk.Cause.Rose, Traffic.{Traffic, after_read, after_write, put_behind, came_in_of, went_out_of}, declared.link.{Got.{Got, TheVariants.{Bytes, End}}, Put.TheVariants.{Count, NotYet as PutNotYet, Failed as PutFailed}}, Added.Added}, proofs.{pm_disk.DiskLaws.rose_from, AddedLaws.{added_both, added_none}, TrafficLaws.{got_in, got_none, got_out, wrote_in, wrote_none, wrote_not_yet, wrote_out}}}
 use Rattle.pm_client.specs.{Sides.{Carries, HasEnded, LinkView, Prints, Sends, Shows, SinkView}, declared.played.Played.TheVariants.{LinkFault, OutFault}}
 
 pub carries_none : (at : LinkView) → Carries [] [] at at
@@ -38,6 +38,13 @@ pub wrote : (before now : LinkView) (count : ℕ) (from : List ℕ) → now.traf
 wrote before now count from is later = record {
   came_in = wrote_in before.traffic now.traffic (Count count) from is;
   went_out = wrote_out before.traffic now.traffic count from is;
+  later = later;
+}
+
+pub wrote_nothing_yet : (before now : LinkView) (from : List ℕ) → now.traffic ≡ option_map (λ t. after_write t PutNotYet from) before.traffic → before.faults ≤ now.faults → Carries [] [] before now
+wrote_nothing_yet before now from is later = record {
+  came_in = wrote_in before.traffic now.traffic PutNotYet from is;
+  went_out = wrote_not_yet before.traffic now.traffic from is;
   later = later;
 }
 
@@ -109,6 +116,9 @@ sent_more bytes rest left count a b c is so_far more = record {
   whole = further bytes so_far.went rest left count is so_far.whole;
   carries = carries_both [] so_far.went [] (take count rest) a b c so_far.carries more;
 }
+
+pub sent_on : (bytes rest : List ℕ) (a b c : LinkView) → SentBut rest bytes a b → Carries [] [] b c → SentBut rest bytes a c
+sent_on bytes rest a b c so_far more = record { went = so_far.went; whole = so_far.whole; carries = carries_in [] so_far.went [] a b c so_far.carries more }
 
 pub sends_all : (done : Unit {0}) (rest bytes : List ℕ) (a b : LinkView) → rest ≡ [] → SentBut rest bytes a b → Sends (Ok done) bytes a b
 sends_all done rest bytes a b none sent = record { went = sent.went; missing = rest; whole = sent.whole; carries = sent.carries; all = none }

@@ -13,6 +13,7 @@ pub(crate) fn send<L: Link>(link: &mut L, bytes: &[u8]) -> Result<(), Played>
     while !rest.is_empty() {
         match link.write(rest) {
             Put::Count(count) => rest = &rest[count..],
+            Put::NotYet => {}
             Put::Failed => return Err(Played::LinkFault),
         }
     }
@@ -28,6 +29,7 @@ pub(crate) fn show<O: Sink>(sink: &mut O, text: &[u8]) -> Result<(), Played>
     while !rest.is_empty() {
         match sink.write(rest) {
             Put::Count(count) => rest = &rest[count..],
+            Put::NotYet => unreachable!(),
             Put::Failed => return Err(Played::OutFault),
         }
     }

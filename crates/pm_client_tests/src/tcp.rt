@@ -30,7 +30,7 @@ const CONF: SessionConf = SessionConf {
 
 // A free port of this machine.
 fn open<R: Net + Copy + Drop>(rt: &R, alloc: Global) -> Result<TcpPort<R>, Fail> {
-    let bells = Arc::new(alloc, Bells::new()?)?;
+    let bells = Arc::new(alloc, Bells::new(alloc, 1)?)?;
     match TcpPort::new(*rt, alloc, bells, 0) {
         Ok(port) => Ok(port),
         Err(_) => Err(Fail::new("no port")),
@@ -40,7 +40,7 @@ fn open<R: Net + Copy + Drop>(rt: &R, alloc: Global) -> Result<TcpPort<R>, Fail>
 // The next link of a port, which a client takes within a second.
 fn accept<R: Net + Clock + Copy + Drop>(rt: &R, port: &mut TcpPort<R>) -> Option<TcpLink> {
     for _ in 0..1000 {
-        match port.accept() {
+        match port.accept(0) {
             Accepted::Link(link) => return Some(link),
             Accepted::NotYet => thread::sleep(rt, Duration::from_millis(1)),
             Accepted::End | Accepted::Failed => break,

@@ -24,6 +24,8 @@ impl Link for Noted {
 
     ghost faults = { λ noted. link_faults noted.link };
 
+    ghost patience = { λ _. 0 };
+
     fn read(&mut self, into: &mut [u8]) -> Got {
         let got = self.link.read(into);
         if let Got::Bytes(count) = got {
@@ -36,6 +38,8 @@ impl Link for Noted {
         let _ = self.notes.push(self.came);
         self.link.write(from)
     }
+
+    fn hurry(&mut self) {}
 
     fn faults(&self) -> u64 {
         self.link.faults()

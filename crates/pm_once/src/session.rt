@@ -17,6 +17,9 @@ use pm_session::{Admission, Done, Means, SessionConf, serve};
 use std::marker::Brand;
 use std::sync::Wait;
 
+/// The slot of whoever serves a link: there is one thread alone.
+const SLOT: u32 = 0;
+
 /// The port's next link, or none where it has come to its end. A fault of the port is passed over.
 pub fn next_link<R: Wait, P: Port>(rt: &R, port: &mut P) -> Option<P::Link>
     ensures out { IfSome result (λ link. IfSome (P.visits port.new)
@@ -29,7 +32,7 @@ pub fn next_link<R: Wait, P: Port>(rt: &R, port: &mut P) -> Option<P::Link>
     ensures ended { IfNone result (P.visits port.new ≡ option_map with_end (P.visits port.old)) }
 {
     for _ in rt.forever() {
-        match port.accept() {
+        match port.accept(SLOT) {
             Accepted::Link(link) => return Some(link),
             Accepted::End => return None,
             Accepted::NotYet | Accepted::Failed => {}

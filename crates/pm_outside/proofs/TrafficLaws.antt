@@ -1,6 +1,6 @@
 -- The laws of what one read or one write adds to what passed.
 use Rattle.std.{proofs.Common.{◌≡◌, ◌∙◌, ℕ, List, [], take, Option, None, Some, ap}, specs.Option.option_map}
-use Rattle.pm_outside.{specs.{declared.link.{Got.{Got, TheVariants.{Bytes, NotYet, End, Failed}}, Put.{Put, TheVariants.{Count, Failed as PutFailed}}}, Added.Added, Traffic.{Traffic, after_read, after_write, came_in_of, went_out_of}}, proofs.AddedLaws.added_none}
+use Rattle.pm_outside.{specs.{declared.link.{Got.{Got, TheVariants.{Bytes, NotYet, End, Failed}}, Put.{Put, TheVariants.{Count, NotYet as PutNotYet, Failed as PutFailed}}}, Added.Added, Traffic.{Traffic, after_read, after_write, came_in_of, went_out_of}}, proofs.AddedLaws.added_none}
 
 -- ---- one write
 
@@ -15,6 +15,10 @@ wrote_out (Some t) now count from is = ap went_out_of is
 pub wrote_none : (before now : Option Traffic) (from : List ℕ) → now ≡ option_map (λ t. after_write t PutFailed from) before → Added [] (went_out_of before) (went_out_of now)
 wrote_none None now from is = ap went_out_of is
 wrote_none (Some t) now from is = ap went_out_of is ∙ added_none (Some t.went_out)
+
+pub wrote_not_yet : (before now : Option Traffic) (from : List ℕ) → now ≡ option_map (λ t. after_write t PutNotYet from) before → Added [] (went_out_of before) (went_out_of now)
+wrote_not_yet None now from is = ap went_out_of is
+wrote_not_yet (Some t) now from is = ap went_out_of is ∙ added_none (Some t.went_out)
 
 -- ---- one read
 

@@ -1,6 +1,6 @@
 -- What a sink in memory keeps, and what one write does to it.
 use Rattle.std.specs.Prelude.{◌≡◌, ℕ, List}
-use Rattle.pm_outside.specs.{Calls.{Calls, after_call}, Traffic.is_put_failed, declared.{link.Put.{Put, TheVariants.{Count, Failed}}, mem_sink.MemSink.MemSink}}
+use Rattle.pm_outside.specs.{Calls.{Calls, after_call}, Traffic.is_put_failed, declared.{link.Put.{Put, TheVariants.{Count, NotYet, Failed}}, mem_sink.MemSink.MemSink}}
 
 -- all bytes written, in order
 abbrev pub sink_bytes : MemSink → List ℕ
@@ -17,6 +17,7 @@ sink_calls sink = sink.writes
 -- a write took so many bytes, or failed
 abbrev pub TakesOrFails : Put → ℕ → Type 0
 TakesOrFails (Count count) most = count ≡ most
+TakesOrFails NotYet most = ⊥
 TakesOrFails Failed most = Unit {0}
 
 -- a write counts as a call, and the limit and the list of failing calls stay

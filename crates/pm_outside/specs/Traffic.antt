@@ -1,6 +1,6 @@
 -- What passes on a link, and what one read or one write adds to it.
 use Rattle.std.specs.Prelude.{◌≡◌, ℕ, ◌≤◌, Bool, true, false, ◌||◌, List, [], ◌++◌, take, Option, None, Some, option_map}
-use Rattle.pm_outside.specs.declared.link.{Got.{Got, TheVariants.{Bytes, NotYet, End, Failed}}, Put.{Put, TheVariants.{Count, Failed as PutFailed}}}
+use Rattle.pm_outside.specs.declared.link.{Got.{Got, TheVariants.{Bytes, NotYet, End, Failed}}, Put.{Put, TheVariants.{Count, NotYet as PutNotYet, Failed as PutFailed}}}
 
 -- all bytes that came in and went out, whether the end was given, whether the last read found nothing yet, whether a read or a
 -- write has failed, and whether a call was made after a failed one, or a read after the end
@@ -45,11 +45,13 @@ after_read t Failed into = record t { waits = false; failed = true; went_on = go
 -- whether a write failed
 abbrev pub is_put_failed : Put → Bool
 is_put_failed (Count count) = false
+is_put_failed PutNotYet = false
 is_put_failed PutFailed = true
 
 -- bytes after those that stand, as many as a write took
 abbrev pub put_behind : List ℕ → Put → List ℕ → List ℕ
 put_behind stands (Count count) from = stands ++ take count from
+put_behind stands PutNotYet from = stands
 put_behind stands PutFailed from = stands
 
 -- a write that answered so
@@ -70,4 +72,17 @@ GotWithin Failed room = Unit {0}
 -- a write takes at least one byte, and no more than it was given
 abbrev pub PutWithin : Put → ℕ → Type 0
 PutWithin (Count count) given = (1 ≤ count) × (count ≤ given)
+PutWithin PutNotYet given = Unit {0}
 PutWithin PutFailed given = Unit {0}
+
+-- how often a write answered that nothing was taken yet
+abbrev pub asks_again : Put → ℕ
+asks_again (Count count) = 0
+asks_again PutNotYet = 1
+asks_again PutFailed = 0
+
+-- a write took some, or failed
+abbrev pub IsPutDone : Put → Type 0
+IsPutDone (Count count) = Unit {0}
+IsPutDone PutNotYet = ⊥
+IsPutDone PutFailed = Unit {0}

@@ -16,13 +16,16 @@ pub trait Clock {
     fn now(&self) -> u64
         ensures { gives self.now result };
 
-    /// Lets some time pass. It may end at once where there was a ring since the pause before.
+    /// Lets some time pass. It may end at once where there was a ring or a call since the pause before.
     fn pause(&self);
 
-    /// Ends the pauses on the other side: those of the clocks made from this one, or of the one that this was made from.
+    /// Ends the pause of the clock that this one was made from.
     fn ring(&self);
 
-    /// A clock for another thread, which gives the same moments.
-    fn another(&self) -> Result<Self, AllocError>
+    /// Calls the child of this slot: the pause of the clock that was made for it ends, and the waits of its link.
+    fn call(&self, slot: u32);
+
+    /// A clock for another thread, that of the child of this slot, which gives the same moments.
+    fn another(&self, slot: u32) -> Result<Self, AllocError>
         ensures { IfOk result (λ clock. (moment : ℕ) → gives clock moment ↔ gives self.now moment) };
 }

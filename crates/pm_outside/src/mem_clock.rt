@@ -96,7 +96,9 @@ impl<R: Wait + time::Clock + Copy + Drop> Clock for MemClock<R> {
     // A pause is short, so that none has to be ended.
     fn ring(&self) {}
 
-    fn another(&self) -> Result<Self, AllocError> {
+    fn call(&self, _slot: u32) {}
+
+    fn another(&self, _slot: u32) -> Result<Self, AllocError> {
         let passed = match &self.passed {
             Some(passed) => Some(Arc::try_clone(passed)?),
             None => None,

@@ -79,13 +79,16 @@ impl MemLink {
 impl Link for MemLink {
     ghost use Rattle.std.specs.Prelude.{◌≡◌, ◌≢◌, ◌↔◌, ◌+◌, ◌-◌, ◌^◌, ◌++◌, length, take, drop, min, IsTrue, Some};
     ghost use Rattle.pm_disk.specs.Cause.{IsCounted};
-    ghost use Rattle.pm_outside.specs.{Calls.is_next_listed, MemLink.{bytes_left, link_traffic, link_sink, link_number, link_faults, got_count, read_calls, AnswersBy, CountsRead, ChangesSinkOnly}, MemSink.{sink_bytes, sink_limit, sink_calls, TakesOrFails, CountsWrite}, Traffic.{PutWithin, GotWithin, after_read, after_write}};
+    ghost use Rattle.pm_outside.specs.{Calls.is_next_listed, MemLink.{bytes_left, link_traffic, link_sink, link_number, link_faults, got_count, read_calls, AnswersBy, CountsRead, ChangesSinkOnly}, MemSink.{sink_bytes, sink_limit, sink_calls, TakesOrFails, CountsWrite}, Traffic.{PutWithin, GotWithin, after_read, after_write, asks_again}};
 
     ghost traffic = { λ l. Some (link_traffic l) };
 
     ghost number = { link_number };
 
     ghost faults = { link_faults };
+
+    // No write answers that nothing was taken yet.
+    ghost patience = { λ _. 0 };
 
     fn read(&mut self, into: &mut [u8]) -> Got
         requires { 0 < length into.old }
@@ -139,6 +142,7 @@ impl Link for MemLink {
         ensures number { link_number self.new ≡ link_number self.old }
         ensures cause { IsCounted (link_faults self.old) (link_faults self.new)
             (result ≡ Put.Failed) }
+        ensures patience { asks_again result ≡ 0 }
 
         ensures takes { TakesOrFails result (min (sink_limit (link_sink self.old))
             (length from.now)) }
@@ -155,6 +159,9 @@ impl Link for MemLink {
         }
         put
     }
+
+    // No write waits.
+    fn hurry(&mut self) {}
 
     fn faults(&self) -> u64 {
         self.reads.failed().saturating_add(self.outgoing.faults())

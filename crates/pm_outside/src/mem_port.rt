@@ -128,7 +128,7 @@ impl Port for MemPort {
     ghost balanced = { λ p. subst (λ (n : ℕ). n ≤ length (port_visits p).given) (sym (length-map (links_back p) visit_of))
         (subst (λ (n : ℕ). length (links_back p) ≤ n) (sym (length-replicate (links_given p) 0)) p.came_from_here) };
 
-    fn accept(&mut self) -> Accepted<MemLink>
+    fn accept(&mut self, _slot: u32) -> Accepted<MemLink>
         ensures visits { port_visits self.new ≡ after_accept link_faults (port_visits self.old)
             result }
         ensures number { IfLink result (λ link. link_number link ≡ links_given self.old + 1) }

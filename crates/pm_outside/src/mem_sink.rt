@@ -45,7 +45,7 @@ impl MemSink {
 impl Sink for MemSink {
     ghost use Rattle.std.specs.Prelude.{◌≡◌, length, min, IsTrue, Some};
     ghost use Rattle.pm_disk.specs.Cause.{IsCounted};
-    ghost use Rattle.pm_outside.specs.{Calls.is_next_listed, MemSink.{sink_bytes, sink_limit, sink_calls, TakesOrFails, CountsWrite}, Traffic.{PutWithin, put_behind}};
+    ghost use Rattle.pm_outside.specs.{Calls.is_next_listed, MemSink.{sink_bytes, sink_limit, sink_calls, TakesOrFails, CountsWrite}, Traffic.{IsPutDone, PutWithin, put_behind}};
 
     ghost written = { λ s. Some (sink_bytes s) };
 
@@ -54,6 +54,7 @@ impl Sink for MemSink {
     fn write(&mut self, from: &[u8]) -> Put
         requires { 0 < length from.now }
         ensures within { PutWithin result (length from.now) }
+        ensures done { IsPutDone result }
         ensures written { sink_bytes self.new ≡ put_behind (sink_bytes self.old) result from.now }
         ensures cause { IsCounted (sink_calls self.old).failed (sink_calls self.new).failed
             (result ≡ Put.Failed) }

@@ -25,8 +25,9 @@ pub trait Port {
     /// How often it has failed, up to 2^64 - 1. It never falls.
     ghost faults: { Self → ℕ };
 
-    /// The next link, on which nothing has passed yet. The first is number 1, and each has the next number.
-    fn accept(&mut self) -> Accepted<Self::Link>
+    /// The next link, on which nothing has passed yet, for the child of this slot. The first is number 1, and each has the next
+    /// number.
+    fn accept(&mut self, slot: u32) -> Accepted<Self::Link>
         ensures visits { visits self.new ≡ option_map (λ v. after_accept Self.Link.faults v result)
             (visits self.old) }
         ensures number { IfSome (visits self.old) (λ v. IfLink result

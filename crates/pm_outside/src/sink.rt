@@ -1,7 +1,7 @@
 // Where log lines and printed answers go.
 ghost use Rattle.std.specs.Prelude.{◌≡◌, ◌<◌, ℕ, List, Option, option_map, length};
 ghost use Rattle.pm_disk.specs.Cause.{IsCounted};
-ghost use Rattle.pm_outside.specs.Traffic.{PutWithin, put_behind};
+ghost use Rattle.pm_outside.specs.Traffic.{IsPutDone, PutWithin, put_behind};
 
 use crate::link::Put;
 
@@ -16,6 +16,7 @@ pub trait Sink {
     fn write(&mut self, from: &[u8]) -> Put
         requires { 0 < length from.now }
         ensures within { PutWithin result (length from.now) }
+        ensures done { IsPutDone result }
         ensures written { written self.new ≡ option_map (λ w. put_behind w result from.now)
             (written self.old) }
         ensures cause { IsCounted (faults self.old) (faults self.new) (result ≡ Put.Failed) };

@@ -16,6 +16,10 @@ link_faults link = link.faults
 abbrev pub link_number : TcpLink → ℕ
 link_number link = link.number
 
+-- how many of its writes may still answer that nothing was taken yet
+abbrev pub link_patience : TcpLink → ℕ
+link_patience link = link.asks_left
+
 abbrev pub port_faults : {N : Type 0} → TcpPort N → ℕ
 port_faults port = count_of port.faults
 
@@ -30,10 +34,10 @@ asked_port port = port.asked
 abbrev pub links_given : {N : Type 0} → TcpPort N → ℕ
 links_given port = port.given
 
--- how long its clients may take up to the greeting, in milliseconds
+-- the limit of time for its clients from their coming on, in milliseconds
 abbrev pub entry_limit : {N : Type 0} → TcpPort N → ℕ
 entry_limit port = port.entry_ms
 
--- and the client of a link
+-- and for the client of a link
 abbrev pub link_limit : TcpLink → ℕ
 link_limit link = link.entry_ms

@@ -2,6 +2,7 @@
 use libc::net as c;
 use mio::unix::SourceFd;
 use mio::{Interest, Registry, Token};
+use std::alloc::Global;
 use std::io;
 use std::sync::Wait;
 use std::sync::atomic::{AtomicU64, Ordering};
@@ -45,41 +46,69 @@ impl Drop for Bell {
     }
 }
 
-/// The bells of a server. Its supervisor waits at the door, and its children wait for a call to all of them. A call is
-/// counted before it rings, so who hears it can tell it from an earlier one.
+/// The bell of a slot's child. A call is counted before it rings, so who hears it can tell it from an earlier one.
+#[derive(Drop)]
+struct Calls {
+    bell: Bell,
+    // How often the child was called, which its pauses sleep on.
+    count: AtomicU64,
+}
+
+/// The bells of a server. Its supervisor waits at the door, and the child of each slot at that of its slot.
 #[derive(Drop)]
 pub struct Bells {
     /// A child has ended, or the console has a line.
     pub door: Bell,
-    /// The children were called, which their reads wait for.
-    pub call: Bell,
-    // How often the children were called, which their pauses sleep on.
-    calls: AtomicU64,
+    slots: Vec<Calls>,
     // The last moment that the supervisor's clock gave, in milliseconds.
     moment: AtomicU64,
 }
 
 impl Bells {
-    /// Bells that weren't rung.
-    pub fn new() -> io::Result<Bells> {
+    /// Bells that weren't rung, for so many slots. The children of others are called by none.
+    pub fn new(alloc: Global, slots: u32) -> io::Result<Bells> {
+        let mut all = Vec::with_capacity(alloc, slots as usize)?;
+        for _ in 0..slots {
+            all.push(Calls {
+                bell: Bell::new()?,
+                count: AtomicU64::new(0),
+            })?;
+        }
         Ok(Bells {
             door: Bell::new()?,
-            call: Bell::new()?,
-            calls: AtomicU64::new(0),
+            slots: all,
             moment: AtomicU64::new(0),
         })
     }
 
-    /// Calls all children.
-    pub fn call_all(&self) {
-        self.calls.fetch_add(1, Ordering::SeqCst);
-        self.calls.wake_all();
-        self.call.ring();
+    // What calls the child of this slot.
+    fn calls_of(&self, slot: u32) -> Option<&Calls> {
+        self.slots.get(slot as usize)
     }
 
-    /// How often the children were called.
-    pub fn calls(&self) -> u64 {
-        self.calls.load(Ordering::SeqCst)
+    /// Calls the child of this slot.
+    pub fn call(&self, slot: u32) {
+        if let Some(calls) = self.calls_of(slot) {
+            calls.count.fetch_add(1, Ordering::SeqCst);
+            calls.count.wake_all();
+            calls.bell.ring();
+        }
+    }
+
+    /// Has the waits over these descriptors end by a call of the child of this slot.
+    pub fn register(&self, slot: u32, registry: &Registry, token: Token) -> io::Result<()> {
+        match self.calls_of(slot) {
+            Some(calls) => calls.bell.register(registry, token),
+            None => Ok(()),
+        }
+    }
+
+    /// How often the child of this slot was called.
+    pub fn calls(&self, slot: u32) -> u64 {
+        match self.calls_of(slot) {
+            Some(calls) => calls.count.load(Ordering::SeqCst),
+            None => 0,
+        }
     }
 
     /// Shows the moment that it is, in milliseconds.
@@ -92,10 +121,12 @@ impl Bells {
         self.moment.load(Ordering::SeqCst)
     }
 
-    /// Waits until the children were called more often than so, for a time at most.
-    pub fn wait_for_call<R: Wait>(&self, rt: &R, calls: u64, limit: Duration) {
-        if self.calls() == calls {
-            self.calls.park_timeout(rt, low_half(calls), limit);
+    /// Waits until the child of this slot was called more often than so, for a time at most.
+    pub fn wait_for_call<R: Wait>(&self, rt: &R, slot: u32, count: u64, limit: Duration) {
+        if let Some(calls) = self.calls_of(slot) {
+            if calls.count.load(Ordering::SeqCst) == count {
+                calls.count.park_timeout(rt, low_half(count), limit);
+            }
         }
     }
 }

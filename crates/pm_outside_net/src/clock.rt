@@ -24,8 +24,8 @@ const LISTENER: Token = Token(0);
 const DOOR: Token = Token(1);
 
 /// The time since a start, in milliseconds, by a clock of the system that never goes back. The supervisor's pauses end by
-/// a connection or at the door, and a ring of it calls the children. The pauses of a child's, made by `another`, end by a
-/// call, and a ring of it goes to the door.
+/// a connection or at the door, and it calls the children. The pauses of a child's, made by `another`, end by a call of the
+/// child of its slot, and a ring of it goes to the door.
 #[derive(Drop)]
 pub struct ServerClock<R> {
     start: Instant,
@@ -39,8 +39,8 @@ pub struct ServerClock<R> {
 enum Side {
     /// The supervisor's: a pause waits for a connection and at the door.
     Supervisor(Mutex<Door>),
-    /// A child's: a pause waits for a call. So many were heard.
-    Child(AtomicU64),
+    /// A child's: a pause waits for a call of the child of this slot. So many were heard.
+    Child { slot: u32, heard: AtomicU64 },
 }
 
 #[derive(Drop)]
@@ -98,28 +98,35 @@ impl<R: Wait + time::Clock + Copy + Drop> Clock for ServerClock<R> {
                 let Door { poll, events } = &mut *door;
                 let _ = poll.poll(events, Some(Duration::from_millis(TICK_MS)));
             }
-            Side::Child(heard) => {
-                let calls = self.bells.calls();
+            Side::Child { slot, heard } => {
+                let calls = self.bells.calls(*slot);
                 if heard.swap(calls, Ordering::SeqCst) == calls {
                     let limit = Duration::from_millis(PAUSE_MS);
-                    self.bells.wait_for_call(&self.rt, calls, limit);
+                    self.bells.wait_for_call(&self.rt, *slot, calls, limit);
                 }
             }
         }
     }
 
+    // The supervisor's clock was made from none.
     fn ring(&self) {
-        match &self.side {
-            Side::Supervisor(_) => self.bells.call_all(),
-            Side::Child(_) => self.bells.door.ring(),
+        if let Side::Child { .. } = &self.side {
+            self.bells.door.ring();
         }
     }
 
-    fn another(&self) -> Result<Self, AllocError> {
+    fn call(&self, slot: u32) {
+        self.bells.call(slot);
+    }
+
+    fn another(&self, slot: u32) -> Result<Self, AllocError> {
         Ok(ServerClock {
             start: self.start,
             bells: Arc::try_clone(&self.bells)?,
-            side: Side::Child(AtomicU64::new(self.bells.calls())),
+            side: Side::Child {
+                slot,
+                heard: AtomicU64::new(self.bells.calls(slot)),
+            },
             rt: self.rt,
         })
     }

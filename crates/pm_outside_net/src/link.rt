@@ -9,20 +9,21 @@ use std::net::{Net, Shutdown};
 use std::sync::Arc;
 use std::time::Duration;
 
-/// How long a read waits at most up to the greeting, in milliseconds. The limit of time is looked at in between.
-const ENTRY_MS: u64 = 100;
+/// The least patience of a read, in milliseconds.
+const LEAST_MS: u64 = 100;
 
-/// How long a read waits at most after the greeting, in milliseconds.
-const IDLE_MS: u64 = 60_000;
+/// The most, in milliseconds.
+const MOST_MS: u64 = 60_000;
 
-/// The most bytes that are sent up to the greeting: an answer to each request for encryption.
-const ENTRY_BYTES: u64 = 2;
+/// How long after its client's limit of time a read has the least patience, in milliseconds. A session goes by a clock of
+/// its own, by which the limit may pass a little later.
+const NEAR_MS: u64 = 1000;
 
-/// How long one wait of a write is at most, in milliseconds. Once the children were called there is no second.
-const WRITE_MS: u64 = 1000;
+/// How often a write waits so long for a client that takes nothing: for an hour.
+const WRITE_WAITS: u64 = 60;
 
-/// How often a write waits for a client that takes nothing: for an hour.
-const WRITE_WAITS: u64 = 3600;
+/// How long the writes of a link wait in all from the moment at which its child is to end, in milliseconds.
+const LAST_MS: u64 = 1000;
 
 /// How many reads of 4,096 bytes let go of what a client still sent when its link is closed.
 const LAST_READS: u32 = 64;
@@ -31,9 +32,10 @@ const SOCKET: Token = Token(0);
 
 const CALL: Token = Token(1);
 
-/// A connection. A read waits for bytes or a call to all children: 100 ms at most as long as the client was only answered
-/// its requests for encryption, and a minute after that. Up to then it has a limit of time, and after it the link has ended.
-/// A write waits for a client that takes nothing: an hour at most, and a second after a call, and then it fails.
+/// A connection. A read waits for bytes or a call of its slot's child: a minute at most, and up to the client's limit of time,
+/// whatever was sent, so that a session can see that its client wasn't greeted in time. The link gives no client up by it.
+/// A write waits for a client that takes nothing, or for a call, after which it answers not yet: an hour at most, and a second
+/// from the moment at which the child is to end, and then it fails.
 #[derive(Drop)]
 pub struct TcpLink {
     number: u64,
@@ -41,18 +43,20 @@ pub struct TcpLink {
     poll: Poll,
     events: Events,
     bells: Arc<Bells, Global>,
-    // The calls that it has heard.
+    // Whose calls it hears, and how many it has heard.
+    slot: u32,
     heard: u64,
-    // It has heard a call since bytes came last.
-    is_called: bool,
+    // How many writes may still answer not yet.
+    asks_left: u64,
     // All that came was read, so that more comes with an event.
     is_drained: bool,
     // The client sends no more, so that its end may come with no event of its own.
     has_ended: bool,
-    sent: u64,
-    // When it came, and how long its client may take up to the greeting, in milliseconds.
+    // When it came, and the limit of time for its client from then on, in milliseconds.
     came: u64,
     entry_ms: u64,
+    // Until when its writes wait, once its child is to end.
+    last: Option<u64>,
     faults: u64,
 }
 
@@ -60,7 +64,7 @@ pub struct TcpLink {
 enum Waited {
     /// The socket has something new.
     Socket,
-    /// The children were called.
+    /// The child was called.
     Called,
     /// The time is up.
     Late,
@@ -69,14 +73,15 @@ enum Waited {
 impl TcpLink {
     ghost use Rattle.std.specs.Prelude.{◌≡◌, ◌≤◌, IfOk};
     ghost use Rattle.pm_outside.specs.pm_disk.Cause.{Rose};
-    ghost use Rattle.pm_outside_net.specs.Counts.{link_faults, link_limit, link_number};
+    ghost use Rattle.pm_outside_net.specs.Counts.{link_faults, link_limit, link_number, link_patience};
 
-    /// The link of this number over a stream whose calls don't wait. A call from before isn't heard. Its client may take so
-    /// many milliseconds up to the greeting.
+    /// The link of this number, for the child of this slot, over a stream whose calls don't wait. A call from before isn't heard.
+    /// Its client is to be greeted in so many milliseconds, and a read that waits then comes back.
     pub(crate) fn new<N: Net>(
         net: &N,
         alloc: Global,
         bells: &Arc<Bells, Global>,
+        slot: u32,
         number: u64,
         entry_ms: u64,
         stream: TcpStream,
@@ -90,10 +95,10 @@ impl TcpLink {
         let poll = Poll::new(net)?;
         let both = Interest::READABLE | Interest::WRITABLE;
         poll.registry().register(&mut stream, SOCKET, both)?;
-        bells.call.register(poll.registry(), CALL)?;
+        bells.register(slot, poll.registry(), CALL)?;
         let events = Events::with_capacity(alloc, 2)?;
         let bells = Arc::try_clone(bells)?;
-        let heard = bells.calls();
+        let heard = bells.calls(slot);
         let came = bells.moment();
         Ok(TcpLink {
             number,
@@ -101,33 +106,33 @@ impl TcpLink {
             poll,
             events,
             bells,
+            slot,
             heard,
-            is_called: false,
+            asks_left: u64::MAX,
             is_drained: false,
             has_ended: false,
-            sent: 0,
             came,
             entry_ms,
+            last: None,
             faults: 0,
         })
     }
 
-    // Whether the client wasn't greeted yet.
-    fn is_entering(&self) -> bool {
-        self.sent <= ENTRY_BYTES
-    }
-
-    // Whether its time up to the greeting has passed.
-    fn is_late(&self) -> bool {
-        self.is_entering() && self.bells.moment().saturating_sub(self.came) >= self.entry_ms
-    }
-
-    // How long a read waits at most.
+    // How long a read waits where nothing ends its wait: up to the limit of time, and long again from a second after it.
     fn patience(&self) -> u64 {
-        if self.is_entering() {
-            ENTRY_MS
-        } else {
-            IDLE_MS
+        let passed = self.bells.moment().saturating_sub(self.came);
+        if passed >= self.entry_ms.saturating_add(NEAR_MS) {
+            return MOST_MS;
+        }
+        let left = self.entry_ms.saturating_sub(passed);
+        left.max(LEAST_MS).min(MOST_MS)
+    }
+
+    // How long a write waits where nothing ends its wait.
+    fn write_patience(&self) -> u64 {
+        match self.last {
+            None => MOST_MS,
+            Some(last) => last.saturating_sub(self.bells.moment()),
         }
     }
 
@@ -135,16 +140,16 @@ impl TcpLink {
     fn wait(&mut self, limit_ms: u64) -> io::Result<Waited>
         ensures faults { self.new.faults ≡ self.old.faults }
         ensures number { self.new.number ≡ self.old.number }
+        ensures patience { self.new.asks_left ≡ self.old.asks_left }
     {
         // What stood when the set was made comes as an event too, which may be a call from before.
         for _ in 0..4 {
             let limit = Duration::from_millis(limit_ms);
             self.poll.poll(&mut self.events, Some(limit))?;
             let is_new = self.see();
-            let calls = self.bells.calls();
+            let calls = self.bells.calls(self.slot);
             if self.heard != calls {
                 self.heard = calls;
-                self.is_called = true;
                 return Ok(Waited::Called);
             }
             if is_new {
@@ -161,6 +166,7 @@ impl TcpLink {
     fn see(&mut self) -> bool
         ensures faults { self.new.faults ≡ self.old.faults }
         ensures number { self.new.number ≡ self.old.number }
+        ensures patience { self.new.asks_left ≡ self.old.asks_left }
     {
         let mut is_new = false;
         for event in self.events.iter() {
@@ -176,6 +182,7 @@ impl TcpLink {
     // Counts a failure.
     fn count_fault(&mut self)
         ensures number { self.new.number ≡ self.old.number }
+        ensures patience { self.new.asks_left ≡ self.old.asks_left }
         ensures later { self.old.faults ≤ self.new.faults }
         ensures rose { Rose self.old.faults self.new.faults }
     {
@@ -199,7 +206,7 @@ impl TcpLink {
 
 impl Link for TcpLink {
     ghost use Rattle.std.specs.Prelude.{None};
-    ghost use Rattle.pm_outside_net.specs.Counts.{link_faults, link_number};
+    ghost use Rattle.pm_outside_net.specs.Counts.{link_faults, link_number, link_patience};
 
     // It doesn't tell what passes.
     ghost traffic = { λ _. None };
@@ -208,10 +215,9 @@ impl Link for TcpLink {
 
     ghost faults = { link_faults };
 
+    ghost patience = { link_patience };
+
     fn read(&mut self, into: &mut [u8]) -> Got {
-        if self.is_late() {
-            return Got::End;
-        }
         for _ in 0..4 {
             if self.is_drained {
                 match self.wait(self.patience()) {
@@ -227,7 +233,6 @@ impl Link for TcpLink {
                 Ok(0) => return Got::End,
                 Ok(count) => {
                     self.is_drained = count < into.len() && !self.has_ended;
-                    self.is_called = false;
                     return Got::Bytes(count);
                 }
                 Err(error) => match error.kind() {
@@ -247,15 +252,18 @@ impl Link for TcpLink {
         for _ in 0..WRITE_WAITS {
             match self.stream.write(from) {
                 Ok(0) => break,
-                Ok(count) => {
-                    self.sent = self.sent.saturating_add(count as u64);
-                    return Put::Count(count);
-                }
+                Ok(count) => return Put::Count(count),
                 Err(error) => match error.kind() {
-                    ErrorKind::WouldBlock => match self.wait(WRITE_MS) {
-                        Ok(Waited::Socket | Waited::Called) => {}
+                    ErrorKind::WouldBlock => match self.wait(self.write_patience()) {
+                        Ok(Waited::Socket) => {}
+                        Ok(Waited::Called) => {
+                            if self.asks_left > 0 {
+                                self.asks_left -= 1;
+                                return Put::NotYet;
+                            }
+                        }
                         Ok(Waited::Late) => {
-                            if self.is_called {
+                            if self.last.is_some() {
                                 break;
                             }
                         }
@@ -268,6 +276,13 @@ impl Link for TcpLink {
         }
         self.count_fault();
         Put::Failed
+    }
+
+    // By the moments that the supervisor's clock gives.
+    fn hurry(&mut self) {
+        if self.last.is_none() {
+            self.last = Some(self.bells.moment().saturating_add(LAST_MS));
+        }
     }
 
     fn faults(&self) -> u64 {

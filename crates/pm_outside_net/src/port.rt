@@ -39,7 +39,7 @@ pub struct TcpPort<N> {
     listener: TcpListener,
     asked: u16,
     bells: Arc<Bells, Global>,
-    // How long a client may take up to the greeting, in milliseconds.
+    // The limit of time for a client from its coming on, in milliseconds.
     entry_ms: u64,
     given: u64,
     faults: Faults<AcceptFault>,
@@ -53,7 +53,7 @@ impl<N: Net + Drop> TcpPort<N> {
     ghost use Rattle.pm_outside_net.specs.Counts.{asked_port, entry_limit, first_port_fault, link_limit, link_number, links_given, port_faults};
 
     /// Listens on this port of 127.0.0.1, or on a free one at 0. A port whose connections were broken off may be taken
-    /// again at once. Its clients may take as long as they want up to the greeting.
+    /// again at once. Its clients have no limit of time.
     pub fn new(
         net: N,
         alloc: Global,
@@ -81,8 +81,8 @@ impl<N: Net + Drop> TcpPort<N> {
         }
     }
 
-    /// The clients that come from now on may take so many milliseconds up to the greeting, by the moments that the
-    /// supervisor's clock gives.
+    /// The clients that come from now on are to be greeted in so many milliseconds. A read of their links that waits then
+    /// comes back, by the moments that the supervisor's clock gives, so that who serves them can end what takes longer.
     pub fn limit_entry(&mut self, entry_ms: u64)
         ensures limit { entry_limit self.new ≡ entry_ms }
         ensures given { links_given self.new ≡ links_given self.old }
@@ -111,8 +111,8 @@ impl<N: Net + Drop> TcpPort<N> {
         self.faults.first()
     }
 
-    // The next connection that is still there, as the link of this number.
-    fn take(&self, number: u64) -> io::Result<TcpLink>
+    // The next connection that is still there, as the link of this number for the child of this slot.
+    fn take(&self, slot: u32, number: u64) -> io::Result<TcpLink>
         ensures number { IfOk result (λ link. link_number link ≡ number) }
         ensures limit { IfOk result (λ link. link_limit link ≡ entry_limit self.now) }
     {
@@ -123,6 +123,7 @@ impl<N: Net + Drop> TcpPort<N> {
                         &self.net,
                         self.alloc,
                         &self.bells,
+                        slot,
                         number,
                         self.entry_ms,
                         stream,
@@ -153,7 +154,7 @@ impl<N: Net + Drop> Port for TcpPort<N> {
 
     ghost balanced = { λ _. tt };
 
-    fn accept(&mut self) -> Accepted<TcpLink>
+    fn accept(&mut self, slot: u32) -> Accepted<TcpLink>
         ensures cause { IsCounted (port_faults self.old) (port_faults self.new)
             (result ≡ Accepted.Failed) }
         ensures first { StaysFirst (first_port_fault self.old) (first_port_fault self.new) }
@@ -163,7 +164,7 @@ impl<N: Net + Drop> Port for TcpPort<N> {
             (2 ^ 64 - 1)) }
     {
         let next = self.given.saturating_add(1);
-        match self.take(next) {
+        match self.take(slot, next) {
             Ok(link) => {
                 self.given = next;
                 Accepted::Link(link)

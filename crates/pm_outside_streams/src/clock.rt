@@ -46,7 +46,9 @@ impl<R: Wait + time::Clock + Copy + Drop> Clock for SystemClock<R> {
     // Nobody else pauses while `once` serves its link.
     fn ring(&self) {}
 
-    fn another(&self) -> Result<Self, AllocError> {
+    fn call(&self, _slot: u32) {}
+
+    fn another(&self, _slot: u32) -> Result<Self, AllocError> {
         Ok(SystemClock {
             start: self.start,
             rt: self.rt,

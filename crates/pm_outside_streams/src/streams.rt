@@ -35,6 +35,9 @@ impl<R: Read, W: Write> Link for StandardLink<R, W> {
 
     ghost faults = { λ link. link.faults };
 
+    // No write answers that nothing was taken yet.
+    ghost patience = { λ _. 0 };
+
     fn read(&mut self, into: &mut [u8]) -> Got {
         match self.reader.read(into) {
             Ok(0) => Got::End,
@@ -55,6 +58,9 @@ impl<R: Read, W: Write> Link for StandardLink<R, W> {
             }
         }
     }
+
+    // A write waits for its writer alone.
+    fn hurry(&mut self) {}
 
     fn faults(&self) -> u64 {
         self.faults
@@ -86,7 +92,7 @@ impl<R: Read + Drop, W: Write + Drop> Port for StandardPort<R, W> {
 
     ghost balanced = { λ _. tt };
 
-    fn accept(&mut self) -> Accepted<StandardLink<R, W>> {
+    fn accept(&mut self, _slot: u32) -> Accepted<StandardLink<R, W>> {
         match self.waiting.take() {
             Some(link) => Accepted::Link(link),
             None => Accepted::End,
@@ -144,7 +150,7 @@ impl<W: Write> StandardSink<W> {
 }
 
 impl<W: Write> Sink for StandardSink<W> {
-    ghost use Rattle.pm_outside.specs.{pm_disk.Cause.IsCounted, Traffic.PutWithin};
+    ghost use Rattle.pm_outside.specs.{pm_disk.Cause.IsCounted, Traffic.{IsPutDone, PutWithin}};
     ghost use Rattle.pm_outside_faults.specs.Faults.{StaysFirst};
     ghost use Rattle.pm_outside_streams.specs.Faults.{first_sink_fault, sink_faults, stream_name};
 
@@ -156,6 +162,7 @@ impl<W: Write> Sink for StandardSink<W> {
     fn write(&mut self, from: &[u8]) -> Put
         requires { 0 < length from.now }
         ensures within { PutWithin result (length from.now) }
+        ensures done { IsPutDone result }
         ensures cause { IsCounted (sink_faults self.old) (sink_faults self.new)
             (result ≡ Put.Failed) }
         ensures first { StaysFirst (first_sink_fault self.old) (first_sink_fault self.new) }

@@ -135,7 +135,7 @@ fn said(alloc: Global, answer: impl Debug + Drop) -> Result<String, Fail> {
 
 // What the port answers.
 fn accepted(alloc: Global, stage: &mut Stage) -> Result<String, Fail> {
-    let word = match stage.port.accept() {
+    let word = match stage.port.accept(0) {
         Accepted::Link(link) => {
             stage.links.push(link)?;
             "Link"

@@ -15,8 +15,8 @@ fn clocks_go_on_with_pauses_of_all_or_of_one_or_stand(rt: HostRuntime) -> Result
         (MemClock::still(5, rt), 5, 5),
     ];
     for (clock, behind_others, behind_own) in clocks {
-        let other = clock.another()?;
-        let third = other.another()?;
+        let other = clock.another(0)?;
+        let third = other.another(0)?;
         other.pause();
         third.pause();
         assert_eq!(rt; [clock.now(), third.now()], [behind_others; 2]);

@@ -81,11 +81,10 @@ impl<
             → IsIdle (view_of self.new).work.standing) }
     {
         laws::<L>();
-        match self.port.accept() {
+        match self.port.accept(slot) {
             Accepted::Link(link) => {
                 let link = NewLink::new(link);
                 self.desk.admit(slot, Mail::Serve { link, decision });
-                self.clock.ring();
                 Ok(true)
             }
             Accepted::End => {

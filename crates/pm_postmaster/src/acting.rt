@@ -3,9 +3,11 @@ ghost use Rattle.std.specs.Prelude.{◌≡◌, ◌+◌, ℕ, [], false, true, Ok
 ghost use Rattle.pm_board_acts.specs.{pm_supervisor_journal.{Due.IsIdle, Standing.IsAtRest, Stands.IsSettled, declared.act.Act.TheVariants.Reset}, Sitting.AreReaped};
 ghost use Rattle.pm_postmaster.specs.{Acting.{Performs, after_crash, end_by, failed_by}, Serving.{Goes, IsAlive}, View.view_of};
 
+use crate::calls::call;
 use crate::came::{Came, LastCame};
 use crate::laws::laws;
 use crate::server::Server;
+use pm_board_acts::Audience;
 use pm_disk::Disk;
 use pm_exit::Status;
 use pm_modes::Mode;
@@ -88,6 +90,13 @@ impl<
         }
     }
 
+    // Calls the children that were told something by this act.
+    fn call_for(&self, act: Act) {
+        if let Some(who) = Audience::told_by(act) {
+            call(&self.clock, self.desk.roster(), who);
+        }
+    }
+
     // Does an act that was noted and done at the board.
     fn perform<R: Wait>(&mut self, rt: &R, act: Act) -> Result<(), ServerEnd>
         requires { (generation : ℕ) → act ≡ Reset generation
@@ -99,9 +108,8 @@ impl<
             Act::Say(line) => self.log.say(line),
             Act::Reset { generation } => return self.renew(rt, generation),
             Act::End(ending) => return Err(end_of(ending, self.came)),
-            Act::Start { .. } | Act::Quit(_) | Act::Terminate | Act::KillAll | Act::AskCheckpoint =>
-                self.clock.ring(),
-            Act::Ready { .. } => {}
+            Act::Quit(_) | Act::Terminate | Act::KillAll | Act::AskCheckpoint => self.call_for(act),
+            Act::Start { .. } | Act::Ready { .. } => {}
         }
         Ok(())
     }

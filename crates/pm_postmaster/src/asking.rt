@@ -4,8 +4,10 @@ ghost use Rattle.pm_board_acts.specs.{pm_supervisor_journal.Due.IsIdle, Seating.
 ghost use Rattle.pm_serve_requests.specs.Requests.{meant};
 ghost use Rattle.pm_postmaster.specs.{Asking.{HasRead, Heeds}, Serving.{Goes, IsAlive}, View.view_of};
 
+use crate::calls::call;
 use crate::laws::laws;
 use crate::server::Server;
+use pm_board_acts::Audience;
 use pm_disk::Disk;
 use pm_outside::{Asked, Chronicle, Clock, Console, Link, Port, Sink};
 use pm_query::BookEntry;
@@ -36,7 +38,7 @@ impl<
         laws::<L>();
         match self.desk.kill(pid) {
             Ok(()) => {
-                self.clock.ring();
+                call(&self.clock, self.desk.roster(), Audience::One(pid));
                 Ok(())
             }
             Err(_) => Err(ServerEnd::NoMemory),

@@ -3,9 +3,10 @@ ghost use Rattle.std.specs.Prelude.{◌≡◌, ◌+◌, ◌<◌, ℕ, false, IfS
 ghost use Rattle.pm_board_acts.specs.{Acts.ShowsNow, Board.seats_of, Final.{AreFree, NobodySits}};
 ghost use Rattle.pm_postmaster.specs.Clearing.{Clears, MayClear};
 
+use crate::calls::call;
 use crate::looking::open_mail;
 use pm_board::{Roster, counts_children};
-use pm_board_acts::{Rest, kill_rest, reap_rest};
+use pm_board_acts::{Audience, Rest, kill_rest, reap_rest};
 use pm_outside::{Clock, Link, Port};
 use pm_worker::Mail;
 use std::sync::Wait;
@@ -62,7 +63,7 @@ pub(crate) fn clear<R: Wait, L: Link + Drop, P: Port<Link = L>, C: Clock>(
     ensures gone { NobodySits roster.new.knows }
 {
     kill_rest(roster);
-    clock.ring();
+    call(clock, roster, Audience::Everyone);
     'looks: for _ in rt.forever() {
         if !clear_once(roster, port) {
             return;

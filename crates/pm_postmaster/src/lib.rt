@@ -2,13 +2,14 @@
 //!
 //! [`supervise`] is the whole run. It makes the pool, and then goes on turn by turn (`server`): it looks at every slot (`looking`),
 //! reads a line of the console (`asking`), tells its machine the time and lets it do what it does by itself (`turning`), and takes a
-//! connection (`accepting`). The acts of the machine are done at once after each of these (`acting`). Where a turn came to nothing
-//! it pauses. At its end it kills who is left (`clearing`), and closes the pool.
+//! connection (`accepting`). The acts of the machine are done at once after each of these (`acting`), and the children that one of
+//! them tells something are called (`calls`). Where a turn came to nothing it pauses. At its end it kills who is left (`clearing`), and closes the pool.
 #![tactic(auto)]
 
 mod accepting;
 mod acting;
 mod asking;
+mod calls;
 mod came;
 mod clearing;
 mod laws;
@@ -17,4 +18,4 @@ mod postmaster;
 mod server;
 mod turning;
 
-pub use postmaster::{Served, supervise};
+pub use postmaster::{Served, slots, supervise};

@@ -12,7 +12,7 @@ use pm_board_acts::Desk;
 use pm_disk::Disk;
 use pm_outside::{Chronicle, Clock, Console, Link, Port, Sink};
 use pm_query::BookEntry;
-use pm_serve_pool::{Made, NoPool, Plan, Unmade, make};
+use pm_serve_pool::{Made, NoPool, Plan, Unmade, board_slots, make};
 use pm_server::{Conf, Outside, ServerEnd, say_end};
 use pm_server_lines::Log;
 use pm_spawn::Spawner;
@@ -41,6 +41,16 @@ fn ended<O: Sink>(log: Log<O>, end: ServerEnd) -> O
     let mut log = log;
     say_end(&mut log, end);
     log.into_sink()
+}
+
+/// How many slots a server's board has by these settings, each for a child.
+pub fn slots(conf: &Conf) -> u32 {
+    let limits = conf.limits;
+    board_slots(
+        limits
+            .max_connections
+            .saturating_add(limits.max_worker_processes),
+    )
 }
 
 /// How a server ended, what it worked on, and the supervisor's side of its board, where a pool was made.

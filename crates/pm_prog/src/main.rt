@@ -16,7 +16,7 @@ use pm_outside::{Console, Forgotten, Link, MemClock, MemConsole, MemPort, Port, 
 use pm_outside_files::LogFiles;
 use pm_outside_streams::{StandardPort, StandardSink, SystemClock, fill_standard_streams};
 use pm_rows::Text;
-use pm_top::{Command, Ended, Outside, Top, read_words, run};
+use pm_top::{Command, Ended, Outside, Top, read_words, run, slots};
 use std::alloc::Global;
 use std::env::Env;
 use std::fs;
@@ -80,8 +80,12 @@ where
     match line.command {
         Command::Once => over_streams(rt, host, &words, disk, sink),
         Command::Serve { port } => {
-            let entry_ms = line.conf.session.authentication_ms;
-            over_network(rt, host, &words, Endpoint { port, entry_ms }, disk, sink)
+            let endpoint = Endpoint {
+                port,
+                entry_ms: line.conf.session.authentication_ms,
+                slots: slots(&line.conf),
+            };
+            over_network(rt, host, &words, endpoint, disk, sink)
         }
         Command::Initdb => {
             // Where the folder can't be made its files can't either, and then that is told.

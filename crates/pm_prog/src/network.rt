@@ -44,11 +44,13 @@ pub struct Network<R> {
     pub console: StandardConsole<R>,
 }
 
-/// Where clients come in: a port of 127.0.0.1, and how long each may take up to its greeting, in milliseconds.
+/// Where clients come in: a port of 127.0.0.1, how long each may take up to its greeting, in milliseconds, and how many slots there
+/// are for the children that serve them.
 #[derive(Clone, Copy)]
 pub struct Endpoint {
     pub port: u16,
     pub entry_ms: u64,
+    pub slots: u32,
 }
 
 /// Listens there, and begins to read the console.
@@ -61,7 +63,7 @@ pub fn open<R>(
 where
     R: Threads + Wait + Net + Clock + Copy + Drop + Send + 'static,
 {
-    let bells = bells(alloc)?;
+    let bells = bells(alloc, endpoint.slots)?;
     let mut port = TcpPort::new(rt, alloc, Arc::try_clone(&bells)?, endpoint.port)?;
     port.limit_entry(endpoint.entry_ms);
     let clock = ServerClock::new(rt, &rt, alloc, Arc::try_clone(&bells)?, port.descriptor())?;
@@ -73,6 +75,6 @@ where
     })
 }
 
-fn bells(alloc: Global) -> io::Result<Arc<Bells, Global>> {
-    Ok(Arc::new(alloc, Bells::new()?)?)
+fn bells(alloc: Global, slots: u32) -> io::Result<Arc<Bells, Global>> {
+    Ok(Arc::new(alloc, Bells::new(alloc, slots)?)?)
 }

@@ -1,5 +1,5 @@
 //! What a pool is made by.
-ghost use Rattle.std.specs.Prelude.{◌≡◌, ◌+◌, ◌≤◌};
+ghost use Rattle.std.specs.Prelude.{◌≡◌, ◌+◌, ◌*◌, ◌≤◌};
 ghost use Rattle.pm_serve_pool.specs.Plan.{slots_of};
 
 use pm_session::SessionConf;
@@ -17,14 +17,22 @@ pub struct Plan {
     pub seed: [u8; 32],
 }
 
+/// How many slots a board has for so many sessions and background workers in all, 200 at most: one each for startup child,
+/// checkpointer and writer, two for each of these, since one that is ending may be there beside its successor, and four for
+/// dead-end children.
+pub fn board_slots(serving: u32) -> u32
+    ensures { serving ≤ 200 → result ≡ 3 + 2 * serving + 4 }
+{
+    serving.saturating_mul(2).saturating_add(3 + 4)
+}
+
 impl Plan {
-    /// How many slots its board has: one each for startup child, checkpointer and writer, two for each session or background
-    /// worker, since one that is ending may be there beside its successor, and four for dead-end children.
+    /// How many slots its board has.
     pub fn slots(&self) -> u32
         requires { self.now.max_connections + self.now.max_worker_processes ≤ 200 }
         ensures { result ≡ slots_of self.now }
     {
-        3 + 2 * (self.max_connections + self.max_worker_processes) + 4
+        board_slots(self.max_connections + self.max_worker_processes)
     }
 }
 

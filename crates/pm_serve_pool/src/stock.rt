@@ -79,15 +79,15 @@ fn listed<L: Link + Drop>(
     Ok(list)
 }
 
-// So many clocks that give the moments of this one.
+// So many clocks that give the moments of this one, each for the child of its slot.
 fn clocks<C: Clock + Drop>(alloc: Global, clock: &C, count: u32) -> Result<Vec<C>, AllocError>
     ensures { IfOk result (λ clocks. (vec_len clocks ≡ count)
         × All (λ clock'. (moment : ℕ) → C.gives clock' moment → C.gives clock.now moment)
         clocks.items) }
 {
     let mut clocks = Vec::with_capacity(alloc, count as usize)?;
-    for _ in 0..count {
-        clocks.push_reserved(clock.another()?);
+    for slot in 0..count {
+        clocks.push_reserved(clock.another(slot)?);
     }
     Ok(clocks)
 }

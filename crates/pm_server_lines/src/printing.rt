@@ -22,6 +22,7 @@ pub fn print<O: Sink>(sink: &mut O, text: &[u8]) -> Result<(), SinkFailed>
     while !rest.is_empty() {
         match sink.write(rest) {
             Put::Count(count) => rest = &rest[count..],
+            Put::NotYet => unreachable!(),
             Put::Failed => return Err(SinkFailed),
         }
     }

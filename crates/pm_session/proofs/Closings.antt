@@ -231,6 +231,7 @@ closed decision stage cause ends exit words link_before link_now before between 
         whole = sym is ∙ says.whole;
         cut = cut_by kill ends (HasFailed link_before link_now) says.missing says.cut;
         passes = says.passes;
+        silent = λ none. ap (λ (at : Moment (Unit {0})). at.link) (says.silent (is ∙ ap (λ (ms : List BackMessage). bytes_of ms) none ∙ bytes_of-none));
         hears = hears_both 1 0 before between now listened says.hears;
         heeds = heeds_if now.told now ends refl here (heeded_none decision stage cause ends words between now heeded is (λ e. ap (λ (at : Moment (Unit {0})). at.child) (says.silent e)));
         sound = λ left. ends_by_words decision stage cause ends words link_before link_now link_before.traffic between now kill refl heeded is says left;

@@ -1,11 +1,11 @@
 -- The packets before a session, one after the other.
-use Rattle.std.{proofs.{Common.{if◌then◌else◌, ◌≡◌, inl, inr, ℕ, Bool, true, false, List, [], ◌∷◌, ◌++◌, map, take, drop, take-append-drop, Option, Result, Ok, Err, refl, sym, ◌∙◌, ap, subst, arith, append_assoc}, lemmas.{Grind.flat_map-append, List.{append-nil, map-append, take_all, Concat.flat_map-cons}}}, specs.List.flat_map}
+use Rattle.std.{proofs.{Common.{if◌then◌else◌, ◌≡◌, ◌≢◌, ◌⊎◌, ◌≤◌, ◌-◌, inl, inr, ℕ, Bool, true, false, List, [], ◌∷◌, ◌++◌, map, take, drop, take-append-drop, Option, None, Some, IfSome, Result, Ok, Err, refl, sym, ◌∙◌, ap, subst, arith, append_assoc}, lemmas.{Bool.cases_lt, Grind.flat_map-append, List.{append-nil, map-append, take_all, Concat.flat_map-cons}}}, specs.List.flat_map}
 use Rattle.pm_startup.specs.{declared.{packet.StartFault.StartFault, phase.Phase.Phase}, Grammar.{Content, packet, startup, ssl_request, gssenc_request, cancel_request, FrontDecides, Decides, IsUndecided}, Phases.step_of, pm_wire.Pieces.int32}
 use Rattle.pm_startup.specs.declared.packet.StartFault.TheVariants as packets
 use Rattle.pm_startup.specs.declared.phase.Step.TheVariants as steps
-use Rattle.pm_session_exchange.{specs.{declared.ending.Cause.{Cause, TheVariants.{Terminated, Cancelling, LinkEnded, LinkFailed, TimedOut, PacketRefused, MessageRefused, DecisionRefused, GateRefused, ShortOfMemory, Panicked, ToldToTerminate, ToldToQuit, Killed, Overtaken}}, Exchange.{LinkView, Passes, CutsOff, Holds, Sends, Receives, ReceivesNothing}, Moments.{IsBreak, ShowsCause, outside, Attends}}, proofs.{MomentLaws.{attends_of, attends_none}, LinkLaws.{passes_none, passes_both, sound_left}}}
+use Rattle.pm_session_exchange.{specs.{declared.ending.Cause.{Cause, TheVariants.{Terminated, Cancelling, LinkEnded, LinkFailed, TimedOut, PacketRefused, MessageRefused, DecisionRefused, GateRefused, ShortOfMemory, Panicked, ToldToTerminate, ToldToQuit, Killed, Overtaken}}, pm_outside.{Traffic.{Traffic, came_in_of}, Added.Added}, Exchange.{LinkView, Passes, CutsOff, Holds, HoldsLooking, IsWaiting, Looks, Sends, Receives, ReceivesNothing}, Moments.{IsBreak, Moment, ShowsCause, outside, Attends}}, proofs.{MomentLaws.{attends_of, attends_none, shows_since}, LinkLaws.{passes_none, passes_both, sound_left}}}
 use Rattle.pm_child_life.{specs.{Life.Told, Attention.{Attention, Hears, KeepsCancels}}, proofs.AttentionLaws.{hears_none, hears_both, hears_fewer, asked_then, cancels_none}}
-use Rattle.pm_session.{specs.{Session.{AskInTurn, StopsAt, MayPassOver, first_phase}, Entry.{Asked, GoesOn, AsksToCancel, Enters}}, proofs.{Links.{passes_no_more, holds_then, holds_still}, Said.shows_since}}
+use Rattle.pm_session.{specs.{Session.{AskInTurn, IsApart, StopsAt, MayPassOver, first_phase}, Entry.{Asked, GoesOn, AsksToCancel, Enters}}, proofs.{Links.{passes_no_more, holds_then, holds_still}}}
 
 -- ---- what a step means
 
@@ -129,11 +129,63 @@ breaks_asks (ToldToQuit reason) last before now breaks keeps = keeps
 breaks_asks Killed last before now breaks keeps = keeps
 breaks_asks Overtaken last before now breaks keeps = keeps
 
+-- ---- by what it goes no further
+
+-- this ends it, for any cause but the limit of time
+abbrev pub Stops : Cause → Phase → (last beyond missing : List ℕ) → (before now : Moment (Unit {0})) → Type 0
+Stops cause phase last beyond missing before now =
+    StopsAt phase cause last × MayPassOver cause beyond × ((missing ≡ []) ⊎ CutsOff cause) × ShowsCause cause before.link now.link now.child
+
+breaks_on : (gives : ℕ → Type 0) (limit : ℕ) (cause : Cause) (phase : Phase) (last beyond missing : List ℕ) (before now : Moment (Unit {0})) → IsBreak cause → Stops cause phase last beyond missing before now
+    → GoesOn gives limit (Err cause) phase last beyond missing before now
+breaks_on gives limit TimedOut phase last beyond missing before now breaks stops = absurd breaks
+breaks_on gives limit Terminated phase last beyond missing before now breaks stops = stops
+breaks_on gives limit Cancelling phase last beyond missing before now breaks stops = stops
+breaks_on gives limit LinkEnded phase last beyond missing before now breaks stops = stops
+breaks_on gives limit LinkFailed phase last beyond missing before now breaks stops = stops
+breaks_on gives limit (PacketRefused fault) phase last beyond missing before now breaks stops = stops
+breaks_on gives limit (MessageRefused fault) phase last beyond missing before now breaks stops = stops
+breaks_on gives limit DecisionRefused phase last beyond missing before now breaks stops = stops
+breaks_on gives limit (GateRefused refusal) phase last beyond missing before now breaks stops = stops
+breaks_on gives limit ShortOfMemory phase last beyond missing before now breaks stops = stops
+breaks_on gives limit Panicked phase last beyond missing before now breaks stops = stops
+breaks_on gives limit ToldToTerminate phase last beyond missing before now breaks stops = stops
+breaks_on gives limit (ToldToQuit reason) phase last beyond missing before now breaks stops = stops
+breaks_on gives limit Killed phase last beyond missing before now breaks stops = stops
+breaks_on gives limit Overtaken phase last beyond missing before now breaks stops = stops
+
+-- it was the limit of time, or not
+pub stops_by_time : (gives : ℕ → Type 0) (limit : ℕ) (cause : Cause) (phase : Phase) (last beyond missing : List ℕ) (before now : Moment (Unit {0})) → GoesOn gives limit (Err cause) phase last beyond missing before now
+    → ((cause ≡ TimedOut) × GoesOn gives limit (Err TimedOut) phase last beyond missing before now) ⊎ Stops cause phase last beyond missing before now
+stops_by_time gives limit TimedOut phase last beyond missing before now goes = inl (refl, goes)
+stops_by_time gives limit Terminated phase last beyond missing before now goes = inr goes
+stops_by_time gives limit Cancelling phase last beyond missing before now goes = inr goes
+stops_by_time gives limit LinkEnded phase last beyond missing before now goes = inr goes
+stops_by_time gives limit LinkFailed phase last beyond missing before now goes = inr goes
+stops_by_time gives limit (PacketRefused fault) phase last beyond missing before now goes = inr goes
+stops_by_time gives limit (MessageRefused fault) phase last beyond missing before now goes = inr goes
+stops_by_time gives limit DecisionRefused phase last beyond missing before now goes = inr goes
+stops_by_time gives limit (GateRefused refusal) phase last beyond missing before now goes = inr goes
+stops_by_time gives limit ShortOfMemory phase last beyond missing before now goes = inr goes
+stops_by_time gives limit Panicked phase last beyond missing before now goes = inr goes
+stops_by_time gives limit ToldToTerminate phase last beyond missing before now goes = inr goes
+stops_by_time gives limit (ToldToQuit reason) phase last beyond missing before now goes = inr goes
+stops_by_time gives limit Killed phase last beyond missing before now goes = inr goes
+stops_by_time gives limit Overtaken phase last beyond missing before now goes = inr goes
+
+-- either way the packet after the requests stops it
+pub stopped : (gives : ℕ → Type 0) (limit : ℕ) (cause : Cause) (phase : Phase) (last beyond missing : List ℕ) (before now : Moment (Unit {0})) → GoesOn gives limit (Err cause) phase last beyond missing before now
+    → StopsAt phase cause last × MayPassOver cause beyond × ((missing ≡ []) ⊎ CutsOff cause)
+stopped gives limit cause phase last beyond missing before now goes = elim (stops_by_time gives limit cause phase last beyond missing before now goes) [
+  | inl (is, late) ↦ (subst (λ (c : Cause). StopsAt phase c last) (sym is) late.0, subst (λ (c : Cause). MayPassOver c beyond) (sym is) late.1, inl late.2)
+  | inr stops ↦ (stops.0, stops.1, stops.2)
+]
+
 -- the packet at the front decides
-pub enters_by : (result : Result (Unit {0}) Cause) (phase : Phase) (used : ℕ) (link0 link1 : LinkView) (unread0 unread1 unread2 : List ℕ) (at0 at1 at2 : Attention) → Asked phase (outside link0 unread0 at0) (outside link1 unread1 at1)
-    → GoesOn result phase (take used unread1) (drop used unread1) [] (outside link0 unread0 at0) (outside link1 unread2 at2) → Attends at1 at2 → AsksToCancel result (take used unread1) at1.told at2.told
-    → Enters result (outside link0 unread0 at0) (outside link1 unread2 at2)
-enters_by result phase used link0 link1 unread0 unread1 unread2 at0 at1 at2 asked goes attends cancels = record {
+pub enters_by : (gives : ℕ → Type 0) (limit : ℕ) (result : Result (Unit {0}) Cause) (phase : Phase) (used : ℕ) (link0 link1 : LinkView) (unread0 unread1 unread2 : List ℕ) (at0 at1 at2 : Attention) → Asked phase (outside link0 unread0 at0) (outside link1 unread1 at1)
+    → GoesOn gives limit result phase (take used unread1) (drop used unread1) [] (outside link0 unread0 at0) (outside link1 unread2 at2) → Attends at1 at2 → AsksToCancel result (take used unread1) at1.told at2.told
+    → Enters gives limit result (outside link0 unread0 at0) (outside link1 unread2 at2)
+enters_by gives limit result phase used link0 link1 unread0 unread1 unread2 at0 at1 at2 asked goes attends cancels = record {
   requests = asked.requests;
   phase = phase;
   last = take used unread1;
@@ -171,9 +223,9 @@ stops_by phase Killed last breaks none = (inl none, tt)
 stops_by phase Overtaken last breaks none = absurd breaks
 
 -- no more came
-pub enters_broken : (phase : Phase) (cause : Cause) (link0 link1 link2 : LinkView) (unread0 unread1 unread2 : List ℕ) (at0 at1 at2 : Attention) → Asked phase (outside link0 unread0 at0) (outside link1 unread1 at1) → IsUndecided unread1
-    → ReceivesNothing unread1 unread2 link1 link2 → Hears 1 at1 at2 → IsBreak cause × ShowsCause cause link1 link2 at2 → Holds false (Err cause) link1 link2 → Enters (Err cause) (outside link0 unread0 at0) (outside link2 unread2 at2)
-enters_broken phase cause link0 link1 link2 unread0 unread1 unread2 at0 at1 at2 asked none receives hears shows holds =
+pub enters_broken : (gives : ℕ → Type 0) (limit : ℕ) (phase : Phase) (cause : Cause) (link0 link1 link2 : LinkView) (unread0 unread1 unread2 : List ℕ) (at0 at1 at2 : Attention) → Asked phase (outside link0 unread0 at0) (outside link1 unread1 at1) → IsUndecided unread1
+    → ReceivesNothing unread1 unread2 link1 link2 → Hears 1 at1 at2 → IsBreak cause × ShowsCause cause link1 link2 at2 → Holds false (Err cause) link1 link2 → Enters gives limit (Err cause) (outside link0 unread0 at0) (outside link2 unread2 at2)
+enters_broken gives limit phase cause link0 link1 link2 unread0 unread1 unread2 at0 at1 at2 asked none receives hears shows holds =
     let stops = stops_by phase cause unread1 shows.0 none in
     record {
       requests = asked.requests;
@@ -184,7 +236,7 @@ enters_broken phase cause link0 link1 link2 unread0 unread1 unread2 at0 at1 at2 
       went = answers_to asked.requests;
       missing = [];
       asks = asked.asks;
-      goes_on = (stops.0, stops.1, inl refl, shows_since cause link0 link1 link2 at2 asked.passes.later shows.1);
+      goes_on = breaks_on gives limit cause phase unread1 [] [] (outside link0 unread0 at0) (outside link2 unread2 at2) shows.0 (stops.0, stops.1, inl refl, shows_since cause link0 link1 link2 at2 asked.passes.later shows.1);
       input = asked.input ∙ sym (append-nil (all_of asked.requests ++ unread1));
       output = sym (append-nil (answers_to asked.requests));
       passes = passes_no_more asked.came (answers_to asked.requests) link0 link1 link2 asked.passes receives.passes;
@@ -213,10 +265,10 @@ cut_stops phase Killed beyond breaks cuts = (inl no_packet_yet, tt)
 cut_stops phase Overtaken beyond breaks cuts = absurd breaks
 
 -- an answer to a request was broken off
-pub enters_cut : (phase next : Phase) (content : Content) (cause : Cause) (used : ℕ) (link0 link1 link2 : LinkView) (unread0 unread1 unread2 : List ℕ) (at0 at1 at2 : Attention) → Asked phase (outside link0 unread0 at0) (outside link1 unread1 at1)
+pub enters_cut : (gives : ℕ → Type 0) (limit : ℕ) (phase next : Phase) (content : Content) (cause : Cause) (used : ℕ) (link0 link1 link2 : LinkView) (unread0 unread1 unread2 : List ℕ) (at0 at1 at2 : Attention) → Asked phase (outside link0 unread0 at0) (outside link1 unread1 at1)
     → FrontDecides unread1 used (Ok content) → step_of phase content ≡ steps.SayNo next → unread2 ≡ drop used unread1 → Sends (Err cause) (78 ∷ []) link1 link2 → Hears 0 at1 at2 → IsBreak cause × ShowsCause cause link1 link2 at2 → Holds false (Err cause) link1 link2
-    → Enters (Err cause) (outside link0 unread0 at0) (outside link2 unread2 at2)
-enters_cut phase next content cause used link0 link1 link2 unread0 unread1 unread2 at0 at1 at2 asked front says rest sends hears shows holds =
+    → Enters gives limit (Err cause) (outside link0 unread0 at0) (outside link2 unread2 at2)
+enters_cut gives limit phase next content cause used link0 link1 link2 unread0 unread1 unread2 at0 at1 at2 asked front says rest sends hears shows holds =
     let packet = take used unread1 in
     let stops = cut_stops next cause unread2 shows.0 sends.all in
     record {
@@ -228,7 +280,7 @@ enters_cut phase next content cause used link0 link1 link2 unread0 unread1 unrea
       went = answers_to asked.requests ++ sends.went;
       missing = sends.missing;
       asks = AskInTurn-push first_phase phase next asked.requests packet content asked.asks front.decides says;
-      goes_on = (stops.0, stops.1, inr sends.all, shows_since cause link0 link1 link2 at2 asked.passes.later shows.1);
+      goes_on = breaks_on gives limit cause next [] unread2 sends.missing (outside link0 unread0 at0) (outside link2 unread2 at2) shows.0 (stops.0, stops.1, inr sends.all, shows_since cause link0 link1 link2 at2 asked.passes.later shows.1);
       input = requests_more asked.requests unread0 asked.came unread1 used asked.input ∙ ap (λ (l : List ℕ). all_of (asked.requests ++ packet ∷ []) ++ l) (sym rest)
           ∙ ap (λ (l : List ℕ). l ++ unread2) (sym (append-nil (all_of (asked.requests ++ packet ∷ []))));
       output = answers_more asked.requests packet ∙ ap (λ (l : List ℕ). answers_to asked.requests ++ l) sends.whole ∙ sym (append_assoc (answers_to asked.requests) sends.went sends.missing);
@@ -240,9 +292,92 @@ enters_cut phase next content cause used link0 link1 link2 unread0 unread1 unrea
       holds = λ sound. holds (asked.holds sound);
     }
 
+-- ---- the limit of time
+
+-- the link was read: it waits, or bytes came in
+abbrev pub WasRead : LinkView → Type 0
+WasRead link = IfSome link.traffic (λ t. (t.waits ≡ true) ⊎ (t.came_in ≢ []))
+
+some_behind : (stood came : List ℕ) → came ≢ [] → stood ++ came ≢ []
+some_behind [] came some e = some e
+some_behind (byte ∷ stood) came some e = absurd cc
+
+some_came : (came : List ℕ) (before now : Option Traffic) → came ≢ [] → Added came (came_in_of before) (came_in_of now) → IfSome now (λ t. (t.waits ≡ true) ⊎ (t.came_in ≢ []))
+some_came came before None some added = tt
+some_came came None (Some t) some added = let never : Some t.came_in ≡ None = added in absurd cc
+some_came came (Some s) (Some t) some added =
+    let told : Some t.came_in ≡ Some (s.came_in ++ came) = added in
+    let is : t.came_in ≡ s.came_in ++ came = cc in
+    inr (λ e. some_behind s.came_in came some (sym is ∙ e))
+
+-- so it was by a look
+pub read_looked : (came : Bool) (unread1 unread2 : List ℕ) (link1 link2 : LinkView) → Looks (Ok came) unread1 unread2 link1 link2 → WasRead link2
+read_looked true unread1 unread2 link1 link2 looks = some_came looks.came link1.traffic link2.traffic looks.some looks.passes.came_in
+read_looked false unread1 unread2 link1 link2 looks = waits_so link2.traffic looks.1
+  where
+    waits_so : (traffic : Option Traffic) → IsWaiting traffic → IfSome traffic (λ t. (t.waits ≡ true) ⊎ (t.came_in ≢ []))
+    waits_so None waits = tt
+    waits_so (Some t) waits = inl waits
+
+-- and where a packet stands
+pub read_packet : (phase : Phase) (used : ℕ) (content : Content) (link0 link1 link2 : LinkView) (unread0 unread1 : List ℕ) (at0 at1 : Attention) → unread0 ≡ [] → FrontDecides unread1 used (Ok content)
+    → Asked phase (outside link0 unread0 at0) (outside link1 unread1 at1) → Passes [] (78 ∷ []) link1 link2 → WasRead link2
+read_packet phase used content link0 link1 link2 unread0 unread1 at0 at1 none front asked passes =
+    let input : asked.came ≡ all_of asked.requests ++ unread1 = ap (λ (l : List ℕ). l ++ asked.came) (sym none) ∙ asked.input in
+    let both : Passes (asked.came ++ []) (answers_to asked.requests ++ 78 ∷ []) link0 link2 = passes_both asked.came (answers_to asked.requests) [] (78 ∷ []) link0 link1 link2 asked.passes passes in
+    some_came (asked.came ++ []) link0.traffic link2.traffic (λ e. nothing_unread (all_of asked.requests) unread1 used content front (sym input ∙ sym (append-nil asked.came) ∙ e)) both.came_in
+  where
+    nothing_unread : (before unread : List ℕ) (used : ℕ) (content : Content) → FrontDecides unread used (Ok content) → before ++ unread ≢ []
+    nothing_unread before unread used content front =
+        some_behind before unread (λ empty. no_packet_yet used (Ok content) (subst (λ (l : List ℕ). FrontDecides l used (Ok content)) empty front))
+
+-- bytes came in, or none stood there yet
+pub asked_looked : (came : Bool) (phase : Phase) (link0 link1 link2 : LinkView) (unread0 unread1 unread2 : List ℕ) (at0 at1 at2 : Attention) → Asked phase (outside link0 unread0 at0) (outside link1 unread1 at1) → Looks (Ok came) unread1 unread2 link1 link2 → Hears 1 at1 at2
+    → HoldsLooking (Ok came) link1 link2 → Asked phase (outside link0 unread0 at0) (outside link2 unread2 at2)
+asked_looked true phase link0 link1 link2 unread0 unread1 unread2 at0 at1 at2 asked looks hears holds = asked_received phase link0 link1 link2 unread0 unread1 unread2 at0 at1 at2 asked looks hears holds
+asked_looked false phase link0 link1 link2 unread0 unread1 unread2 at0 at1 at2 asked looks hears holds = record {
+  requests = asked.requests;
+  came = asked.came;
+  asks = asked.asks;
+  input = asked.input ∙ ap (λ (l : List ℕ). all_of asked.requests ++ l) (sym looks.0.unread);
+  passes = passes_no_more asked.came (answers_to asked.requests) link0 link1 link2 asked.passes looks.0.passes;
+  hears = hears_fewer 0 1 at0 at2 (hears_both 0 1 at0 at1 at2 asked.hears hears);
+  holds = λ sound. holds (asked.holds sound);
+}
+
+-- the packet isn't whole at the limit
+pub enters_late : (gives : ℕ → Type 0) (limit : ℕ) (phase : Phase) (link0 link1 : LinkView) (unread0 unread1 : List ℕ) (at0 at1 : Attention) → Asked phase (outside link0 unread0 at0) (outside link1 unread1 at1) → IsUndecided unread1 → WasRead link1
+    → IsApart gives limit → Enters gives limit (Err TimedOut) (outside link0 unread0 at0) (outside link1 unread1 at1)
+enters_late gives limit phase link0 link1 unread0 unread1 at0 at1 asked none read apart = record {
+  requests = asked.requests;
+  phase = phase;
+  last = unread1;
+  beyond = [];
+  came = asked.came;
+  went = answers_to asked.requests;
+  missing = [];
+  asks = asked.asks;
+  goes_on = (none, refl, refl, read, apart);
+  input = asked.input ∙ sym (append-nil (all_of asked.requests ++ unread1));
+  output = sym (append-nil (answers_to asked.requests));
+  passes = asked.passes;
+  heard = at1;
+  hears = asked.hears;
+  attends = attends_of at0 at1 asked.hears;
+  cancels = cancels_none at1.told;
+  holds = λ sound. sound_left false TimedOut link1.traffic (asked.holds sound);
+}
+
+-- a limit has passed between these moments of a clock, which may be one
+pub apart_by : (gives : ℕ → Type 0) (began now limit : ℕ) → gives began → gives now → limit ≤ now - began → IsApart gives limit
+apart_by gives began now limit first second passed = elim (cases_lt now began) [
+  | inl back ↦ record { earlier = now; later = now; first = second; second = second; apart = omega (arith, back, passed) }
+  | inr forward ↦ record { earlier = began; later = now; first = first; second = second; apart = omega (arith, forward, passed) }
+]
+
 -- memory was short before the first byte
-pub enters_not : (link : LinkView) (at : Attention) → Enters (Err ShortOfMemory) (outside link [] at) (outside link [] at)
-enters_not link at = record {
+pub enters_not : (gives : ℕ → Type 0) (limit : ℕ) (link : LinkView) (at : Attention) → Enters gives limit (Err ShortOfMemory) (outside link [] at) (outside link [] at)
+enters_not gives limit link at = record {
   requests = [];
   phase = first_phase;
   last = [];

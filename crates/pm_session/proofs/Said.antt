@@ -1,13 +1,12 @@
 -- Messages that are said one after the other.
 use Rattle.std.{proofs.{Common.{◌≡◌, ℕ, ℤ, ◌+◌, ◌^◌, FitsSigned, w64, ◌≤◌, List, [], ◌∷◌, ◌++◌, length, take, drop, suc, map, get_or, Result, Ok, Err, IfErr, refl, sym, ◌∙◌, ap, subst, arith, append_assoc, ◌<◌, take-append-drop, drop-cons, false}, lemmas.{Grind.flat_map-append, List.{append-nil, map-append, take_more, Concat.flat_map-cons}}}, specs.List.flat_map}
-use Rattle.pm_outside.proofs.pm_disk.DiskLaws.{rose_from}
 use Rattle.pm_session_exchange.specs.pm_query.declared.item.Item.{Item}
 use Rattle.pm_wire.specs.{Outgoing.Outgoing, Conditions.sqlstate, declared.state.SqlState.SqlState}
 use Rattle.pm_wire.specs.declared.state.SqlState.TheVariants as states
 use lib.Signed.{mag}
 use Rattle.std.proofs.lemmas.Int.{ints}
 use Rattle.pm_wire.specs.{Longest.{longest, HasSizes}, Short.short_pair, Backend.{BackMessage, Pair, IsWritable, spelling}}
-use Rattle.pm_session_exchange.{specs.{declared.ending.Cause.{Cause, TheVariants.{Terminated, Cancelling, LinkEnded, LinkFailed, TimedOut, PacketRefused, MessageRefused, DecisionRefused, GateRefused, ShortOfMemory, Panicked, ToldToTerminate, ToldToQuit, Killed, Overtaken}}, Exchange.{LinkView, Sends, Holds}, Moments.{ShowsCause, IsBreak}, Sent.{bytes_of, item_messages}}, proofs.{LinkLaws.{passes_none, passes_both}, SentLaws.{bytes_of-append, bytes_of-none}}}
+use Rattle.pm_session_exchange.{specs.{declared.ending.Cause.{Cause, TheVariants.{Terminated, Cancelling, LinkEnded, LinkFailed, TimedOut, PacketRefused, MessageRefused, DecisionRefused, GateRefused, ShortOfMemory, Panicked, ToldToTerminate, ToldToQuit, Killed, Overtaken}}, Exchange.{LinkView, Sends, Holds}, Moments.{ShowsCause, IsBreak}, Sent.{bytes_of, item_messages}}, proofs.{LinkLaws.{passes_none, passes_both}, MomentLaws.shows_since, SentLaws.{bytes_of-append, bytes_of-none}}}
 use Rattle.pm_child_life.{specs.Attention.{Attention, Hears}, proofs.AttentionLaws.{hears_none, hears_both}}
 use Rattle.pm_session.{specs.Turns.{Desk, desk, Says}, proofs.Links.holds_then}
 
@@ -18,23 +17,6 @@ unfolding bytes_of
 bytes_of-one m = flat_map-cons spelling m [] ∙ append-nil (spelling m)
 
 -- ---- causes
-
-pub shows_since : (cause : Cause) (first second third : LinkView) (child : Attention) → first.faults ≤ second.faults → ShowsCause cause second third child → ShowsCause cause first third child
-shows_since LinkFailed first second third child le shows = rose_from first.faults second.faults third.faults le shows
-shows_since LinkEnded first second third child le shows = shows
-shows_since ToldToTerminate first second third child le shows = shows
-shows_since (ToldToQuit reason) first second third child le shows = shows
-shows_since Killed first second third child le shows = shows
-shows_since Terminated first second third child le shows = shows
-shows_since Cancelling first second third child le shows = shows
-shows_since TimedOut first second third child le shows = shows
-shows_since (PacketRefused fault) first second third child le shows = shows
-shows_since (MessageRefused fault) first second third child le shows = shows
-shows_since DecisionRefused first second third child le shows = shows
-shows_since (GateRefused refusal) first second third child le shows = shows
-shows_since ShortOfMemory first second third child le shows = shows
-shows_since Panicked first second third child le shows = shows
-shows_since Overtaken first second third child le shows = shows
 
 pub if_shows_since : (result : Result (Unit {0}) Cause) (first second third : LinkView) (child : Attention) → first.faults ≤ second.faults
     → IfErr result (λ cause. ShowsCause cause second third child) → IfErr result (λ cause. ShowsCause cause first third child)

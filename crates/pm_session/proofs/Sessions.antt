@@ -1,6 +1,6 @@
 -- A whole session, put together from its parts.
 use Rattle.std.{proofs.{Common.{◌≡◌, ◌≢◌, ◌⊎◌, inl, inr, ℕ, ◌+◌, ◌≤◌, Bool, true, false, List, [], ◌∷◌, ◌++◌, length, map, Option, None, Some, IfSome, Result, Ok, Err, refl, sym, ◌∙◌, ap, subst, arith, append_assoc}, lemmas.List.{append-nil, Elements.Contains-append_right}}, specs.{List.{flat_map, Contains}, Option.option_map}}
-use Rattle.pm_session_exchange.{specs.{pm_outside.{Traffic.{Traffic, IsFresh, came_in_of, went_out_of}, Added.Added}, pm_exit.declared.child.Status.Status, pm_query.{declared.{book.BookEntry.{BookEntry, TheVariants.Attached}, store.StoreNo.StoreNo}, Calls.{User, PassView, user_of, newcomer, new_pass, EnterNotes}}, declared.ending.{Cause.{Cause, TheVariants.{Terminated, Cancelling, LinkEnded, LinkFailed, TimedOut, PacketRefused, MessageRefused, DecisionRefused, GateRefused, ShortOfMemory, Panicked, ToldToTerminate, ToldToQuit, Killed, Overtaken}}, Stage.{Stage, TheVariants.{Outside, Entering, Greeted}}}, Exchange.{LinkView, HasEnded, Passes, HasFailed, CutsOff, Sends, Holds, IsSound, IsLeftFor}, Attention.ends_of, Sent.{Turn, bytes_of, greeting, last_of}, Ends.{LetsGo, status_by}, Queries.IsCancelledTurn, Moments.{Moment, moment, ShowsCause, IsBreak, outside}, Answers.IsOvertakenBy}, proofs.{LinkLaws.{passes_both, sound_left}, SentLaws.{bytes_of-append, bytes_of-none}}}
+use Rattle.pm_session_exchange.{specs.{pm_outside.{Traffic.{Traffic, IsFresh, came_in_of, went_out_of}, Added.Added}, pm_exit.declared.child.Status.Status, pm_query.{declared.{book.BookEntry.{BookEntry, TheVariants.Attached}, store.StoreNo.StoreNo}, Calls.{User, PassView, user_of, newcomer, new_pass, EnterNotes}}, declared.ending.{Cause.{Cause, TheVariants.{Terminated, Cancelling, LinkEnded, LinkFailed, TimedOut, PacketRefused, MessageRefused, DecisionRefused, GateRefused, ShortOfMemory, Panicked, ToldToTerminate, ToldToQuit, Killed, Overtaken}}, Stage.{Stage, TheVariants.{Outside, Entering, Greeted}}}, Exchange.{LinkView, HasEnded, Passes, HasFailed, CutsOff, Sends, Holds, IsSound, IsLeftFor}, Attention.ends_of, Sent.{Turn, bytes_of, greeting, last_of}, Ends.{LetsGo, status_by}, Queries.IsCancelledTurn, Moments.{Moment, moment, ShowsCause, IsBreak, outside}, Answers.IsOvertakenBy}, proofs.{LinkLaws.{passes_both, sound_left}, MomentLaws.shows_since, SentLaws.{bytes_of-append, bytes_of-none}}}
 use Rattle.pm_admit.specs.declared.Cac.{Cac}
 use Rattle.pm_admit.specs.declared.Cac.TheVariants as decisions
 use Rattle.pm_session_exchange.specs.pm_exit.declared.child.Status.TheVariants as statuses
@@ -8,7 +8,7 @@ use Rattle.pm_startup.specs.{declared.phase.Phase.Phase, pm_wire.Backend.BackMes
 use Rattle.pm_session_exchange.specs.pm_query.declared.store.StoreNo.TheVariants as nos
 use Rattle.pm_session_exchange.specs.pm_query.declared.store.Store as Store
 use Rattle.pm_child_life.{specs.{Life.{Child, Told, Signal, Kill, Quit, Terminate as ToTerminate, Cancel, nothing_told, met_at_gate, asked_cancel, IsUntried, HasNoCancel}, declared.life.GateNo.GateNo, Attention.{Attention, HasAsked, Hears, IsAttentive, KeepsCancels, was_given}}, proofs.AttentionLaws.{hears_both, hears_fewer, cancels_then}}
-use Rattle.pm_session.{specs.{Session.{Ending, Heeds, HasAskedFor, CausedBy, IsCaused, HasEntered, IsAdmitted, IsSession, between, HasPassed, AskInTurn, IsStart, StopsAt, EndsAt, AllNotes, AllSleep, HasSlept, MayPassOver, NotesOutside, Leaves, ByStage, IsBehindStart, IsInside, StaysOut, AsksCancel, HasCancelled, first_phase, pieces, query_bytes, last_messages, status_of, TurnsAway, IsAttachedBehind}, Conversation.Conversed, declared.session.Admission.Admission, Entry.{ClosesBy, Connected, Enters, AsksToCancel, IsTold, EndsBy, Closes, Serves, IsTextBehind, IsTextInside, CanRefuseEntry, refusal_cause}, Heeding.{TurnsHeed, HeedInTurn, AllRead}}, proofs.{Attentions.{untried_still, new_untried, new_no_cancel, cancels_still, HasCancels}, Heeding.{heed_none, heed_all, heed_later, heed_earlier}, Links.fresh_sound, Closings.{told_status, told_still, told_now}, Said.shows_since, Conversing.nothing_yet, Entries.{enters_not, no_packet_yet}, Overtaking.ending_overtaken}}
+use Rattle.pm_session.{specs.{Session.{Ending, Heeds, HasAskedFor, CausedBy, IsCaused, HasEntered, IsAdmitted, IsSession, between, HasPassed, AskInTurn, IsStart, StopsAt, EndsAt, AllNotes, AllSleep, HasSlept, MayPassOver, NotesOutside, Leaves, ByStage, IsBehindStart, IsInside, StaysOut, AsksCancel, HasCancelled, first_phase, pieces, query_bytes, last_messages, status_of, TurnsAway, IsAttachedBehind}, Conversation.Conversed, declared.session.Admission.Admission, Entry.{ClosesBy, Connected, Enters, GoesOn, AsksToCancel, IsTold, EndsBy, Closes, Serves, IsTextBehind, IsTextInside, CanRefuseEntry, refusal_cause}, Heeding.{TurnsHeed, HeedInTurn, AllRead}}, proofs.{Attentions.{untried_still, new_untried, new_no_cancel, cancels_still, HasCancels}, Heeding.{heed_none, heed_all, heed_later, heed_earlier}, Links.fresh_sound, Closings.{told_status, told_still, told_now}, Conversing.nothing_yet, Entries.{WasRead, enters_not, no_packet_yet, stopped, stops_by_time}, Overtaking.ending_overtaken}}
 
 -- ---- two texts, one after the other
 
@@ -770,14 +770,15 @@ stops_at phase cause ends last beyond at here over (inr told) =
     let end = told_stops phase ends at (last ++ beyond) told.1 in ([], last ++ beyond, end.0, refl, end.1)
 
 -- a session that no packet started
-pub stopped_session : {S : Type 0} (notes : List BookEntry → S → S → Type 0) (decision : Cac) (user : User) (key : ℕ) (cause : Cause) (ending : Ending) (link0 link1 link2 : LinkView) (unread1 : List ℕ) (store : S) (at0 at1 at2 : Attention) → notes [] store store
-    → IsFresh link0.traffic → Enters (Err cause) (outside link0 [] at0) (outside link1 unread1 at1) → ending.stage ≡ Outside → Closes decision cause ending (outside link1 [] at1) (outside link2 [] at2)
+pub stopped_session : {S : Type 0} (notes : List BookEntry → S → S → Type 0) (decision : Cac) (user : User) (key : ℕ) (gives : ℕ → Type 0) (limit : ℕ) (cause : Cause) (ending : Ending) (link0 link1 link2 : LinkView) (unread1 : List ℕ) (store : S) (at0 at1 at2 : Attention) → notes [] store store
+    → IsFresh link0.traffic → Enters gives limit (Err cause) (outside link0 [] at0) (outside link1 unread1 at1) → ending.stage ≡ Outside → Closes decision cause ending (outside link1 [] at1) (outside link2 [] at2)
     → IsSession notes decision user key [] ending (HasFailed link0 link2) (between link2.traffic store store)
-stopped_session notes decision user key cause ending link0 link1 link2 unread1 store at0 at1 at2 rests fresh enters stage closes =
+stopped_session notes decision user key gives limit cause ending link0 link1 link2 unread1 store at0 at1 at2 rests fresh enters stage closes =
     let last = last_messages decision ending in
-    let split = stops_at enters.phase cause ending.cause enters.last enters.beyond at2 enters.goes_on.0 enters.goes_on.1 closes.ends in
+    let stops = stopped gives limit cause enters.phase enters.last enters.beyond enters.missing (outside link0 [] at0) (outside link1 unread1 at1) enters.goes_on in
+    let split = stops_at enters.phase cause ending.cause enters.last enters.beyond at2 stops.0 stops.1 closes.ends in
     let sent = sent_both (map (λ p. 78) enters.requests) (bytes_of last) enters.went enters.missing closes.went closes.missing (CutsOff ending.exit) (CutsOff ending.exit ⊎ HasFailed link1 link2) enters.output closes.whole
-    (all_cut decision cause ending at2 enters.missing enters.goes_on.2 closes.ends) closes.cut in
+    (all_cut decision cause ending at2 enters.missing stops.2 closes.ends) closes.cut in
     let passes : Passes enters.came (enters.went ++ closes.went) link0 link2 =
     subst (λ (i : List ℕ). Passes i (enters.went ++ closes.went) link0 link2) (append-nil enters.came) (passes_both enters.came enters.went [] closes.went link0 link1 link2 enters.passes closes.passes) in
     record {
@@ -830,11 +831,24 @@ slept_at : (gives : ℕ → Type 0) (turns : List Turn) (came_in : List ℕ) (tr
 slept_at gives turns came_in None is slept = tt
 slept_at gives turns came_in (Some t) is slept = subst (HasSlept gives turns) (sym is) slept
 
-pub stopped_caused : (decision : Cac) (generation : ℕ) (cause : Cause) (ending : Ending) (link0 link1 link2 : LinkView) (unread1 : List ℕ) (at0 at1 at2 : Attention) → IsFresh link0.traffic → Enters (Err cause) (outside link0 [] at0) (outside link1 unread1 at1) → ending.stage ≡ Outside
-    → Closes decision cause ending (outside link1 [] at1) (outside link2 [] at2) → IsUntried at2.told → (limit : ℕ) (gives : ℕ → Type 0) → IsCaused ending [] generation decision link2.traffic (HasFailed link0 link2) at2.told limit gives
-stopped_caused decision generation cause ending link0 link1 link2 unread1 at0 at1 at2 fresh enters stage closes untried limit gives =
-    let at_end = ends_caused cause ending.cause at2 decision link2.traffic (HasFailed link0 link2) limit gives closes.ends
-    (shown_caused cause link0 link1 link2 at1 at2 decision limit gives enters.goes_on.3 closes.passes.ended closes.passes.later closes.hears.given) in
+-- at the limit of time nothing is said, so that the link is as it was read
+late_caused : (decision : Cac) (cause : Cause) (ending : Ending) (link0 link1 link2 : LinkView) (unread1 : List ℕ) (at0 at1 at2 : Attention) (limit : ℕ) (gives : ℕ → Type 0) (phase : Phase) (last beyond missing : List ℕ) → cause ≡ TimedOut
+    → GoesOn gives limit (Err TimedOut) phase last beyond missing (outside link0 [] at0) (outside link1 unread1 at1) → Closes decision cause ending (outside link1 [] at1) (outside link2 [] at2) → CausedBy cause decision link2.traffic (HasFailed link0 link2) at2.told limit gives
+late_caused decision cause ending link0 link1 link2 unread1 at0 at1 at2 limit gives phase last beyond missing is late closes =
+    let fails : status_by cause ≢ statuses.Code 0 = subst (λ (c : Cause). status_by c ≢ statuses.Code 0) (sym is) (λ e. let f : statuses.Code 1 ≡ statuses.Code 0 = e in absurd cc) in
+    let ends : ending.cause ≡ TimedOut = same_cause cause ending.cause at2 fails closes.ends ∙ is in
+    let still : link2 ≡ link1 = closes.silent (ap (λ (c : Cause). last_of decision ending.stage c) ends) in
+    subst (λ (c : Cause). CausedBy c decision link2.traffic (HasFailed link0 link2) at2.told limit gives) (sym is) (subst WasRead (sym still) late.3, late.4)
+
+pub stopped_caused : (decision : Cac) (generation : ℕ) (cause : Cause) (ending : Ending) (link0 link1 link2 : LinkView) (unread1 : List ℕ) (at0 at1 at2 : Attention) (limit : ℕ) (gives : ℕ → Type 0) → IsFresh link0.traffic → Enters gives limit (Err cause) (outside link0 [] at0) (outside link1 unread1 at1) → ending.stage ≡ Outside
+    → Closes decision cause ending (outside link1 [] at1) (outside link2 [] at2) → IsUntried at2.told → IsCaused ending [] generation decision link2.traffic (HasFailed link0 link2) at2.told limit gives
+stopped_caused decision generation cause ending link0 link1 link2 unread1 at0 at1 at2 limit gives fresh enters stage closes untried =
+    let caused : CausedBy cause decision link2.traffic (HasFailed link0 link2) at2.told limit gives =
+    elim (stops_by_time gives limit cause enters.phase enters.last enters.beyond enters.missing (outside link0 [] at0) (outside link1 unread1 at1) enters.goes_on) [
+      | inl (is, late) ↦ late_caused decision cause ending link0 link1 link2 unread1 at0 at1 at2 limit gives enters.phase enters.last enters.beyond enters.missing is late closes
+      | inr stops ↦ shown_caused cause link0 link1 link2 at1 at2 decision limit gives stops.3 closes.passes.ended closes.passes.later closes.hears.given
+    ] in
+    let at_end = ends_caused cause ending.cause at2 decision link2.traffic (HasFailed link0 link2) limit gives closes.ends caused in
     record {
       cause = at_end;
       exit = exit_caused ending at2 decision link2.traffic (HasFailed link0 link2) limit gives closes.killed at_end;
@@ -851,10 +865,10 @@ cut_or exit missing link1 link2 (inr (inl none)) = absurd none
 cut_or exit missing link1 link2 (inr (inr h)) = inr (inr h)
 
 -- a session that a packet started
-pub started_session : {S : Type 0} (notes : List BookEntry → S → S → Type 0) (decision : Cac) (user : User) (key generation : ℕ) (gives : ℕ → Type 0) (ending : Ending) (link0 link1 link2 : LinkView) (unread1 unread2 : List ℕ) (store1 store2 : S) (at0 at1 at2 : Attention) → IsFresh link0.traffic
-    → Enters (Ok tt) (outside link0 [] at0) (outside link1 unread1 at1) → (serves : Serves notes (IsTextBehind decision user key) decision generation gives ending (moment link1 unread1 store1 at1) (moment link2 unread2 store2 at2))
+pub started_session : {S : Type 0} (notes : List BookEntry → S → S → Type 0) (decision : Cac) (user : User) (key generation : ℕ) (gives : ℕ → Type 0) (limit : ℕ) (ending : Ending) (link0 link1 link2 : LinkView) (unread1 unread2 : List ℕ) (store1 store2 : S) (at0 at1 at2 : Attention) → IsFresh link0.traffic
+    → Enters gives limit (Ok tt) (outside link0 [] at0) (outside link1 unread1 at1) → (serves : Serves notes (IsTextBehind decision user key) decision generation gives ending (moment link1 unread1 store1 at1) (moment link2 unread2 store2 at2))
     → IsSession notes decision user key serves.turns ending (HasFailed link0 link2) (between link2.traffic store1 store2)
-started_session notes decision user key generation gives ending link0 link1 link2 unread1 unread2 store1 store2 at0 at1 at2 fresh enters serves =
+started_session notes decision user key generation gives limit ending link0 link1 link2 unread1 unread2 store1 store2 at0 at1 at2 fresh enters serves =
     let requests = flat_map (λ p. p) enters.requests in
     let answers = map (λ p. 78) enters.requests in
     let came : enters.came ≡ requests ++ enters.last ++ unread1 = enters.input ∙ ap (λ (l : List ℕ). requests ++ enters.last ++ l) enters.goes_on.1 in
@@ -872,12 +886,12 @@ started_session notes decision user key generation gives ending link0 link1 link
       entries = serves.entries;
     }
 
-pub started_slept : {S : Type 0} (notes : List BookEntry → S → S → Type 0) (decision : Cac) (user : User) (key generation : ℕ) (gives : ℕ → Type 0) (ending : Ending) (link0 link1 link2 : LinkView) (unread1 unread2 : List ℕ) (store1 store2 : S) (at0 at1 at2 : Attention) → IsFresh link0.traffic
-    → Enters (Ok tt) (outside link0 [] at0) (outside link1 unread1 at1) → (serves : Serves notes (IsTextBehind decision user key) decision generation gives ending (moment link1 unread1 store1 at1) (moment link2 unread2 store2 at2))
+pub started_slept : {S : Type 0} (notes : List BookEntry → S → S → Type 0) (decision : Cac) (user : User) (key generation : ℕ) (gives : ℕ → Type 0) (limit : ℕ) (ending : Ending) (link0 link1 link2 : LinkView) (unread1 unread2 : List ℕ) (store1 store2 : S) (at0 at1 at2 : Attention) → IsFresh link0.traffic
+    → Enters gives limit (Ok tt) (outside link0 [] at0) (outside link1 unread1 at1) → (serves : Serves notes (IsTextBehind decision user key) decision generation gives ending (moment link1 unread1 store1 at1) (moment link2 unread2 store2 at2))
     → IfSome link2.traffic (λ t. HasSlept gives serves.turns t.came_in)
 unfolding started_session
-started_slept notes decision user key generation gives ending link0 link1 link2 unread1 unread2 store1 store2 at0 at1 at2 fresh enters serves =
-    let session = started_session notes decision user key generation gives ending link0 link1 link2 unread1 unread2 store1 store2 at0 at1 at2 fresh enters serves in
+started_slept notes decision user key generation gives limit ending link0 link1 link2 unread1 unread2 store1 store2 at0 at1 at2 fresh enters serves =
+    let session = started_session notes decision user key generation gives limit ending link0 link1 link2 unread1 unread2 store1 store2 at0 at1 at2 fresh enters serves in
     slept_at gives serves.turns session.came_in link2.traffic session.passed.read
     (came_slept gives enters.requests enters.phase enters.last (unread1 ++ serves.came) serves.turns serves.texts serves.beyond enters.asks enters.goes_on.0 serves.slept serves.queries)
 
@@ -960,9 +974,9 @@ ends_not cause ends at other (inl same) e = other (sym same ∙ e)
 ends_not cause ends at other (inr told) e = subst (λ (c : Cause). IsTold c at) e told.1
 
 -- what a session asked for that no packet started
-pub stopped_made : (decision : Cac) (cause : Cause) (ending : Ending) (link0 link1 link2 : LinkView) (unread1 : List ℕ) (at0 at1 at2 : Attention) → IsFresh link0.traffic → HasNoCancel at0.told → Enters (Err cause) (outside link0 [] at0) (outside link1 unread1 at1)
+pub stopped_made : (gives : ℕ → Type 0) (limit : ℕ) (decision : Cac) (cause : Cause) (ending : Ending) (link0 link1 link2 : LinkView) (unread1 : List ℕ) (at0 at1 at2 : Attention) → IsFresh link0.traffic → HasNoCancel at0.told → Enters gives limit (Err cause) (outside link0 [] at0) (outside link1 unread1 at1)
     → Closes decision cause ending (outside link1 [] at1) (outside link2 [] at2) → HasCancelled ending.cause link2.traffic at2.told
-stopped_made decision cause ending link0 link1 link2 unread1 at0 at1 at2 fresh none enters closes =
+stopped_made gives limit decision cause ending link0 link1 link2 unread1 at0 at1 at2 fresh none enters closes =
     let passes : Passes enters.came (enters.went ++ closes.went) link0 link2 =
     subst (λ (i : List ℕ). Passes i (enters.went ++ closes.went) link0 link2) (append-nil enters.came) (passes_both enters.came enters.went [] closes.went link0 link1 link2 enters.passes closes.passes) in
     let heard_none : HasNoCancel enters.heard.told = cancels_still 0 [] at0.told enters.heard.told enters.hears.asked enters.hears.cancels none in
@@ -981,27 +995,27 @@ no_cancel_kept (Some before) None keeps none = absurd keeps
 no_cancel_kept (Some before) (Some now) keeps none = keeps ∙ none
 
 -- and one that a packet started
-pub started_made : (ending : Ending) (link0 link1 link2 : LinkView) (unread1 : List ℕ) (at0 at1 at2 : Attention) (times : ℕ) → HasNoCancel at0.told → Enters (Ok tt) (outside link0 [] at0) (outside link1 unread1 at1) → (HasNoCancel at1.told → HasNoCancel at2.told)
+pub started_made : (gives : ℕ → Type 0) (limit : ℕ) (ending : Ending) (link0 link1 link2 : LinkView) (unread1 : List ℕ) (at0 at1 at2 : Attention) (times : ℕ) → HasNoCancel at0.told → Enters gives limit (Ok tt) (outside link0 [] at0) (outside link1 unread1 at1) → (HasNoCancel at1.told → HasNoCancel at2.told)
     → ending.cause ≢ Cancelling → HasCancelled ending.cause link2.traffic at2.told
-started_made ending link0 link1 link2 unread1 at0 at1 at2 times none enters still other =
+started_made gives limit ending link0 link1 link2 unread1 at0 at1 at2 times none enters still other =
     none_made ending.cause link2.traffic at2.told (still (cancels_still 0 [] at0.told at1.told enters.attends.asked (cancels_then at0.told enters.heard.told at1.told enters.hears.cancels enters.cancels) none)) other
 
 -- ---- the whole, as its caller sees it
 
 -- memory was short before the first byte
-pub connected_not : {S P : Type 0} (its : Store.Ghosts S P) (admission : Admission) (gives : ℕ → Type 0) (exit : Cause) (link0 link1 : LinkView) (store : S) (at0 at1 : Attention) → its.notes [] store store
+pub connected_not : {S P : Type 0} (its : Store.Ghosts S P) (admission : Admission) (gives : ℕ → Type 0) (limit : ℕ) (exit : Cause) (link0 link1 : LinkView) (store : S) (at0 at1 : Attention) → its.notes [] store store
     → IsFresh link0.traffic → at0.child.attached ≡ None → IfSome at0.told (λ t. t ≡ nothing_told) → ClosesBy admission.decision Outside ShortOfMemory exit (outside link0 [] at0) (outside link1 [] at1)
-    → Connected its admission gives exit (moment link0 [] store at0) (moment link1 [] store at1)
-connected_not its admission gives exit link0 link1 store at0 at1 rests fresh free untold (ending, stage, exits, closes) = (
+    → Connected its admission gives limit exit (moment link0 [] store at0) (moment link1 [] store at1)
+connected_not its admission gives limit exit link0 link1 store at0 at1 rests fresh free untold (ending, stage, exits, closes) = (
   ending,
   [],
   0,
   exits,
-  stopped_session its.notes admission.decision (newcomer (its.stamp store) at0.child.pid 0) admission.key ShortOfMemory ending link0 link0 link1 [] store at0 at0 at1 rests fresh (enters_not link0 at0) stage closes,
-  λ limit. stopped_caused admission.decision 0 ShortOfMemory ending link0 link0 link1 [] at0 at0 at1 fresh (enters_not link0 at0) stage closes (untried_still 1 at0.told at1.told closes.hears.asked (new_untried at0.told untold)) limit gives,
+  stopped_session its.notes admission.decision (newcomer (its.stamp store) at0.child.pid 0) admission.key gives limit ShortOfMemory ending link0 link0 link1 [] store at0 at0 at1 rests fresh (enters_not gives limit link0 at0) stage closes,
+  stopped_caused admission.decision 0 ShortOfMemory ending link0 link0 link1 [] at0 at0 at1 limit gives fresh (enters_not gives limit link0 at0) stage closes (untried_still 1 at0.told at1.told closes.hears.asked (new_untried at0.told untold)),
   asked_for 1 [] at0.told at1.told (omega arith) closes.hears.asked,
   attached_outside ending.stage (at1.child.attached ≡ None) (LetsGo ending.exit (at1.child.attached ≡ None) (at1.child.attached ≡ Some 0)) stage (ap (λ (child : Child). child.attached) closes.hears.child ∙ free),
-  stopped_made admission.decision ShortOfMemory ending link0 link0 link1 [] at0 at0 at1 fresh (new_no_cancel at0.told untold) (enters_not link0 at0) closes,
+  stopped_made gives limit admission.decision ShortOfMemory ending link0 link0 link1 [] at0 at0 at1 fresh (new_no_cancel at0.told untold) (enters_not gives limit link0 at0) closes,
   closes.heeds,
   ending_overtaken (its.met store) 0 ShortOfMemory ending at1 closes.ends (λ e. absurd cc),
 )
@@ -1016,16 +1030,16 @@ pub record Handed (link0 link1 given back : LinkView) (at0 at1 : Attention) (tol
   pub child_back : child1 ≡ at1.child
 
 pub connected_as : {S P : Type 0} (its : Store.Ghosts S P) (admission : Admission) (gives : ℕ → Type 0) (exit : Cause) (status : Status) (limit : ℕ) (link0 link1 given back : LinkView) (unread0 unread1 : List ℕ) (store0 store1 : S) (at0 at1 : Attention)
-    (told0 told1 : Option Told) (child0 child1 : Child) → Handed link0 link1 given back at0 at1 told0 told1 child0 child1 → status ≡ status_by exit → Connected its admission gives exit (moment link0 unread0 store0 at0) (moment link1 unread1 store1 at1)
+    (told0 told1 : Option Told) (child0 child1 : Child) → Handed link0 link1 given back at0 at1 told0 told1 child0 child1 → status ≡ status_by exit → Connected its admission gives limit exit (moment link0 unread0 store0 at0) (moment link1 unread1 store1 at1)
     → (ending : Ending) × (turns : List Turn) × (generation : ℕ) × (status ≡ status_of ending)
     × IsSession its.notes admission.decision (newcomer (its.stamp store0) child0.pid generation) admission.key turns ending (HasFailed given back) (between back.traffic store0 store1)
     × IsCaused ending turns generation admission.decision back.traffic (HasFailed given back) told1 limit gives × HasAskedFor turns told0 told1
     × IsAttachedBehind ending generation child1.attached × HasCancelled ending.cause back.traffic told1 × IsOvertakenBy (its.met store1) generation ending.exit
 connected_as its admission gives exit status limit link0 link1 given back unread0 unread1 store0 store1 at0 at1 told0 told1 child0 child1 handed is s =
-    rw (← handed.link_given, ← handed.link_back, ← handed.told_given, handed.told_back, ← handed.child_given, handed.child_back) (s.0, s.1, s.2, is ∙ ap status_by (sym s.3), s.4, s.5 limit, s.6, s.7, s.8, s.10)
+    rw (← handed.link_given, ← handed.link_back, ← handed.told_given, handed.told_back, ← handed.child_given, handed.child_back) (s.0, s.1, s.2, is ∙ ap status_by (sym s.3), s.4, s.5, s.6, s.7, s.8, s.10)
 
-pub connected_heeds : {S P : Type 0} (its : Store.Ghosts S P) (admission : Admission) (gives : ℕ → Type 0) (exit : Cause) (status : Status) (before now : Moment S) (told : Option Told) → status ≡ status_by exit → told ≡ now.child.told
-    → Connected its admission gives exit before now → Heeds status told
-connected_heeds its admission gives exit status before now told is same s =
+pub connected_heeds : {S P : Type 0} (its : Store.Ghosts S P) (admission : Admission) (gives : ℕ → Type 0) (limit : ℕ) (exit : Cause) (status : Status) (before now : Moment S) (told : Option Told) → status ≡ status_by exit → told ≡ now.child.told
+    → Connected its admission gives limit exit before now → Heeds status told
+connected_heeds its admission gives limit exit status before now told is same s =
     let status_is : status ≡ status_of s.0 = is ∙ ap status_by (sym s.3) in
     rw (status_is, same) s.9

@@ -1,13 +1,13 @@
 -- The start of a connection, up to its startup packet; and what is said last.
-use Rattle.std.specs.{Prelude.{◌≡◌, ◌≢◌, ◌⊎◌, ℕ, ◌<◌, ◌≤◌, List, [], ◌∷◌, ◌++◌, length, take, map, false, Option, IfSome, Result, Ok, Err, MatchOption}, List.flat_map, Option.option_map}
+use Rattle.std.specs.{Prelude.{◌≡◌, ◌≢◌, ◌⊎◌, ℕ, ◌<◌, ◌≤◌, List, [], ◌∷◌, ◌++◌, length, take, map, true, false, Option, IfSome, Result, Ok, Err, MatchOption}, List.flat_map, Option.option_map}
 use Rattle.pm_admit.specs.declared.Cac.{Cac}
 use Rattle.pm_admit.specs.declared.Cac.TheVariants as decisions
 use Rattle.pm_session_exchange.specs.pm_exit.declared.child.Status.TheVariants as statuses
 use Rattle.pm_startup.specs.{declared.phase.{Phase.Phase, Step.TheVariants.SayNo}, Grammar.{Content, startup, cancel_request, Decides, FrontDecides, IsUndecided as IsNoPacketYet, max_length}, Phases.step_of, pm_wire.{Backend.BackMessage, Conditions.told, declared.condition.Condition.Condition}}
-use Rattle.pm_session_exchange.specs.{pm_query.{declared.{book.BookEntry.{BookEntry, TheVariants.Attached}, store.StoreNo.StoreNo}, Calls.{User, newcomer, user_of}}, pm_child_life.{Life.{Told, Kill, Quit, Terminate, asked_cancel}, Attention.{Attention, Hears, KeepsCancels, was_given}}, declared.ending.{Cause.{Cause, TheVariants.{Cancelling, ToldToTerminate, ToldToQuit, Killed, Overtaken, ShortOfMemory}}, Stage.Stage}, Exchange.{Passes, HasFailed, CutsOff, Holds, IsLeftFor, IsSound}, Sent.{Turn, bytes_of}, Ends.status_by, Moments.{Moment, ShowsCause, Attends}, Answers.IsOvertakenBy}
+use Rattle.pm_session_exchange.specs.{pm_query.{declared.{book.BookEntry.{BookEntry, TheVariants.Attached}, store.StoreNo.StoreNo}, Calls.{User, newcomer, user_of}}, pm_child_life.{Life.{Told, Kill, Quit, Terminate, asked_cancel}, Attention.{Attention, Hears, KeepsCancels, was_given}}, declared.ending.{Cause.{Cause, TheVariants.{Cancelling, TimedOut, ToldToTerminate, ToldToQuit, Killed, Overtaken, ShortOfMemory}}, Stage.Stage}, Exchange.{Passes, HasFailed, CutsOff, Holds, IsLeftFor, IsSound}, Sent.{Turn, bytes_of}, Ends.status_by, Moments.{Moment, ShowsCause, Attends}, Answers.IsOvertakenBy}
 use Rattle.pm_session_exchange.specs.pm_query.declared.store.StoreNo.TheVariants as nos
 use Rattle.pm_session_exchange.specs.pm_query.declared.store.Store as Store
-use Rattle.pm_session.specs.{declared.{session.Admission.Admission, startup.Ask.{Ask, TheVariants.{Nothing, Encryption, Start, Cancel, Refused}}}, Session.{Ending, Heeds, HasAskedFor, IsCaused, IsSession, IsAttachedBehind, HasCancelled, IsInside, AllSleep, HasSlept, EndsSoundly, between, query_bytes, IsText, IsStart, IsRefusedPacket, AskInTurn, StopsAt, MayPassOver, Leaves, first_phase, last_messages, status_of}}
+use Rattle.pm_session.specs.{declared.{session.Admission.Admission, startup.Ask.{Ask, TheVariants.{Nothing, Encryption, Start, Cancel, Refused}}}, Session.{Ending, Heeds, HasAskedFor, IsCaused, IsSession, IsAttachedBehind, HasCancelled, IsApart, IsInside, AllSleep, HasSlept, EndsSoundly, between, query_bytes, IsText, IsStart, IsRefusedPacket, AskInTurn, StopsAt, MayPassOver, Leaves, first_phase, last_messages, status_of}}
 
 -- ---- the startup packet
 
@@ -29,10 +29,13 @@ pub record Asked (phase : Phase) (before now : Moment (Unit {0})) : Type 0 where
   pub hears : Hears 0 before.child now.child
   pub holds : IsSound false before.link.traffic → IsSound false now.link.traffic
 
--- after the requests this packet starts the session, or it goes no further
-abbrev pub GoesOn : Result (Unit {0}) Cause → Phase → (last beyond missing : List ℕ) → (before now : Moment (Unit {0})) → Type 0
-GoesOn (Ok done) phase last beyond missing before now = IsStart last × (beyond ≡ now.unread) × (missing ≡ [])
-GoesOn (Err cause) phase last beyond missing before now =
+-- After the requests this packet starts the session, or it goes no further. At the limit of time the link was read, and the
+-- packet isn't whole.
+abbrev pub GoesOn : (gives : ℕ → Type 0) → (limit : ℕ) → Result (Unit {0}) Cause → Phase → (last beyond missing : List ℕ) → (before now : Moment (Unit {0})) → Type 0
+GoesOn gives limit (Ok done) phase last beyond missing before now = IsStart last × (beyond ≡ now.unread) × (missing ≡ [])
+GoesOn gives limit (Err TimedOut) phase last beyond missing before now =
+    StopsAt phase TimedOut last × (beyond ≡ []) × (missing ≡ []) × IfSome now.link.traffic (λ t. (t.waits ≡ true) ⊎ (t.came_in ≢ [])) × IsApart gives limit
+GoesOn gives limit (Err cause) phase last beyond missing before now =
     StopsAt phase cause last × MayPassOver cause beyond × ((missing ≡ []) ⊎ CutsOff cause) × ShowsCause cause before.link now.link now.child
 
 -- What the child asked for a cancel: that of a whole packet by which the session ends, and none else.
@@ -42,7 +45,7 @@ AsksToCancel _ last before now = KeepsCancels before now
 
 -- The packets up to the one that starts the session, or up to its end; each request for encryption was answered, but for
 -- one whose answer was broken off.
-pub record Enters (result : Result (Unit {0}) Cause) (before now : Moment (Unit {0})) : Type 0 where
+pub record Enters (gives : ℕ → Type 0) (limit : ℕ) (result : Result (Unit {0}) Cause) (before now : Moment (Unit {0})) : Type 0 where
   pub requests : List (List ℕ)
   pub phase : Phase
   pub last : List ℕ
@@ -51,7 +54,7 @@ pub record Enters (result : Result (Unit {0}) Cause) (before now : Moment (Unit 
   pub went : List ℕ
   pub missing : List ℕ
   pub asks : AskInTurn first_phase requests phase
-  pub goes_on : GoesOn result phase last beyond missing before now
+  pub goes_on : GoesOn gives limit result phase last beyond missing before now
   pub input : before.unread ++ came ≡ flat_map (λ packet. packet) requests ++ last ++ beyond
   pub output : map (λ packet. 78) requests ≡ went ++ missing
   pub passes : Passes came went before.link now.link
@@ -100,6 +103,7 @@ pub record Closes (decision : Cac) (cause : Cause) (ending : Ending) (before now
   pub whole : bytes_of (last_messages decision ending) ≡ went ++ missing
   pub cut : (missing ≡ []) ⊎ (CutsOff ending.exit ⊎ HasFailed before.link now.link)
   pub passes : Passes [] went before.link now.link
+  pub silent : last_messages decision ending ≡ [] → now.link ≡ before.link
   pub hears : Hears 1 before.child now.child
   pub heeds : Heeds (status_of ending) now.child.told
   pub sound : IsLeftFor cause before.link.traffic → EndsSoundly (status_of ending) now.link.traffic
@@ -170,12 +174,12 @@ module _ {S P : Type 0} (its : Store.Ghosts S P) where
       × Serves its.notes (IsTextBehind admission.decision (newcomer (its.stamp before.store) before.child.child.pid generation) admission.key) admission.decision generation gives ending before now
       × IsOvertakenBy (its.met now.store) generation ending.exit
 
-  -- from its first byte
-  abbrev pub Connected : Admission → (gives : ℕ → Type 0) → (exit : Cause) → (before now : Moment S) → Type 0
-  Connected admission gives exit before now =
+  -- from its first byte, up to this limit of time
+  abbrev pub Connected : Admission → (gives : ℕ → Type 0) → (limit : ℕ) → (exit : Cause) → (before now : Moment S) → Type 0
+  Connected admission gives limit exit before now =
       (ending : Ending) × (turns : List Turn) × (generation : ℕ) × (ending.exit ≡ exit)
       × IsSession its.notes admission.decision (newcomer (its.stamp before.store) before.child.child.pid generation) admission.key turns ending (HasFailed before.link now.link) (between now.link.traffic before.store now.store)
-      × ((limit : ℕ) → IsCaused ending turns generation admission.decision now.link.traffic (HasFailed before.link now.link) now.child.told limit gives)
+      × IsCaused ending turns generation admission.decision now.link.traffic (HasFailed before.link now.link) now.child.told limit gives
       × HasAskedFor turns before.child.told now.child.told
       × IsAttachedBehind ending generation now.child.child.attached
       × HasCancelled ending.cause now.link.traffic now.child.told

@@ -251,7 +251,7 @@ EndsSoundly status link = IfSome link (λ traffic. (traffic.went_on ≡ false) �
 abbrev pub CausedBy : Cause → Cac → Option Traffic → (link_failed : Type 0) → Option Told → ℕ → (ℕ → Type 0) → Type 0
 CausedBy LinkEnded decision link link_failed told limit gives = IfSome link (λ traffic. traffic.ended ≡ true)
 CausedBy LinkFailed decision link link_failed told limit gives = link_failed
-CausedBy TimedOut decision link link_failed told limit gives = IfSome link (λ traffic. traffic.waits ≡ true) × IsApart gives limit
+CausedBy TimedOut decision link link_failed told limit gives = IfSome link (λ traffic. (traffic.waits ≡ true) ⊎ (traffic.came_in ≢ [])) × IsApart gives limit
 CausedBy DecisionRefused decision link link_failed told limit gives = decision ≢ decisions.Ok
 CausedBy (GateRefused refusal) decision link link_failed told limit gives = (decision ≡ decisions.Ok) × IfSome told (λ t. t.met ≡ Some (Err refusal))
 CausedBy ToldToTerminate decision link link_failed told limit gives = was_given ToTerminate told

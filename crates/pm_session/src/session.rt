@@ -29,7 +29,7 @@ const SETTINGS: [(&str, &str); 6] = [
 /// What a session goes by.
 #[derive(Clone, Copy, Debug, PartialEq, Eq)]
 pub struct SessionConf {
-    /// How long a client may take up to its startup packet. No session ends by it yet.
+    /// How long a client may take up to the whole of its startup packet, in milliseconds since the session began.
     pub authentication_ms: u64,
 }
 
@@ -62,13 +62,15 @@ pub fn serve<R: Wait, L: Link, S: Store, C: Clock, F: Life>(
     ensures number { L.number result.link ≡ L.number link }
     ensures link_faults { L.faults link ≤ L.faults result.link }
 {
+    let began = means.clock.now();
     let mut line = Line::new(link, Ear::new(life));
     let Ok((mut inbox, outbox)) = buffers(means.alloc) else {
         let exit = close_short_of_memory(&mut line, admission.decision);
         return line.done(exit);
     };
     let mut desk = Desk::new(line, outbox);
-    let exit = desk.session(means, &mut inbox, admission, store);
+    let limit = conf.authentication_ms;
+    let exit = desk.session(means, &mut inbox, admission, began, limit, store);
     desk.into_line().done(exit)
 }
 
@@ -88,6 +90,8 @@ impl<L: Link, F: Life> Desk<L, F> {
         means: &Means<'_, R, C>,
         inbox: &mut Inbox,
         admission: Admission,
+        began: u64,
+        limit: u64,
         store: &mut S,
     ) -> Cause
         requires fresh { IsFresh self.old.link.traffic }
@@ -95,14 +99,15 @@ impl<L: Link, F: Life> Desk<L, F> {
         requires may { admission.decision ≡ Cac.Ok → ¬ (IsTrue self.old.child.child.is_dead_end) }
         requires untold { IsUntold self.old.child.told }
         requires unread { inbox.old ≡ [] }
+        requires began { C.gives means.now.clock.now began }
         requires empty { self.old.outbox.bytes ≡ [] }
         ensures session { Connected S.Store admission
-            (C.gives means.now.clock.now) result (at_desk self.old inbox.old store.old)
+            (C.gives means.now.clock.now) limit result (at_desk self.old inbox.old store.old)
             (at_desk self.new inbox.new store.new) }
         ensures number { self.new.link.number ≡ self.old.link.number }
         ensures link_faults { self.old.link.faults ≤ self.new.link.faults }
     {
-        match startup(&mut self.line, means, inbox) {
+        match startup(&mut self.line, means, inbox, began, limit) {
             Ok(()) => self.admit(means, inbox, admission, store),
             Err(cause) => self.close(admission.decision, Stage::Outside, cause),
         }

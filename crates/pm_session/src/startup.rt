@@ -1,7 +1,7 @@
 //! The start of a connection: requests for encryption, each refused by `N`, up to the packet that starts the session.
-ghost use Rattle.std.specs.Prelude.{◌≡◌, ℕ, List, [], Ok};
+ghost use Rattle.std.specs.Prelude.{◌≡◌, ℕ, List, [], Ok, IsTrue};
 ghost use Rattle.pm_session_exchange.specs.{pm_startup.Grammar.{content_of, FrontDecides}, pm_child_life.Life.HasNoCancel, Moments.outside};
-ghost use Rattle.pm_session.specs.Entry.{AsksFor, Enters};
+ghost use Rattle.pm_session.specs.{Entry.{AsksFor, Enters}, Session.IsApart};
 
 use pm_child_life::Life;
 use pm_outside::{Clock, Link};
@@ -27,24 +27,39 @@ enum Ask {
     Refused(StartFault),
 }
 
-/// Reads packets until one starts the session. Any other end of it is an error.
+/// Reads packets until one starts the session. Any other end of it is an error. After each read that leaves the packet
+/// unfinished, whether or not bytes came, it looks at its clock: at the limit of time, in milliseconds since the session
+/// began, it gives the client up. A packet that is whole starts the session, however late.
 pub(crate) fn startup<R: Wait, L: Link, C: Clock, F: Life>(
     line: &mut Line<L, F>,
     means: &Means<'_, R, C>,
     inbox: &mut Inbox,
+    began: u64,
+    limit: u64,
 ) -> Result<(), Cause>
     requires empty { inbox.old ≡ [] }
     requires none { HasNoCancel line.old.child.told }
-    ensures enters { Enters result (outside line.old.link inbox.old line.old.child)
+    requires began { C.gives means.now.clock.now began }
+    ensures enters { Enters (C.gives means.now.clock.now) limit result
+        (outside line.old.link inbox.old line.old.child)
         (outside line.new.link inbox.new line.new.child) }
 {
     let mut phase = Phase {
         ssl_used: false,
         gss_used: false,
     };
+    let mut came = line.look(inbox)?;
     for _ in means.rt.forever() {
         match asked_by(phase, inbox.unread()) {
-            Ask::Nothing => line.receive(means, inbox)?,
+            Ask::Nothing => {
+                if has_passed(means.clock, began, limit) {
+                    return Err(Cause::TimedOut);
+                }
+                if !came {
+                    means.clock.pause();
+                }
+                came = line.look(inbox)?;
+            }
             Ask::Encryption { behind, used } => {
                 inbox.pass(used);
                 phase = behind;
@@ -62,6 +77,14 @@ pub(crate) fn startup<R: Wait, L: Link, C: Clock, F: Life>(
         }
     }
     unreachable!()
+}
+
+// Whether so many milliseconds have passed since that moment.
+fn has_passed<C: Clock>(clock: &C, began: u64, limit: u64) -> bool
+    requires { C.gives clock.now began }
+    ensures { IsTrue result → IsApart (C.gives clock.now) limit }
+{
+    clock.now().saturating_sub(began) >= limit
 }
 
 // What the bytes ask for in this phase.

@@ -1,7 +1,7 @@
 -- What passed on a link, from one moment to the next.
 use Rattle.std.{proofs.{Common.{◌≡◌, ℕ, ◌≤◌, ◌||◌, Bool, true, false, List, [], ◌++◌, length, take, drop, take-append-drop, length-take, Option, None, Some, refl, sym, ◌∙◌, ap, subst, arith, append_assoc}, lemmas.{Bool.or_from, List.append-nil}}, specs.Option.option_map}
-use Rattle.pm_session_exchange.{specs.{declared.ending.Cause.TheVariants.LinkFailed, Exchange.{LinkView, HasEnded, Passes, HoldsReading, IsSound, IsLeftFor, Reads, ReceivesNothing, SentAllBut}}, proofs.LinkLaws.passes_both}
-use Rattle.pm_outside.{specs.{Traffic.{Traffic, GotWithin, after_read, after_write}, declared.link.{Got.{Got, TheVariants.{Bytes, NotYet, End, Failed}}, Put.{Put, TheVariants.{Count, Failed as PutFailed}}}, pm_disk.Cause.IsCounted}, proofs.TrafficLaws.{got_in, got_none, got_out, wrote_in, wrote_none, wrote_out}}
+use Rattle.pm_session_exchange.{specs.{declared.ending.Cause.TheVariants.LinkFailed, Exchange.{LinkView, link_view, HasEnded, Passes, HoldsReading, IsSound, IsLeftFor, IsWaiting, Reads, Receives, ReceivesNothing, SentAllBut}}, proofs.LinkLaws.passes_both}
+use Rattle.pm_outside.{specs.{Traffic.{Traffic, GotWithin, after_read, after_write}, declared.link.{Got.{Got, TheVariants.{Bytes, NotYet, End, Failed}}, Put.{Put, TheVariants.{Count, NotYet as PutNotYet, Failed as PutFailed}}}, pm_disk.Cause.IsCounted}, proofs.TrafficLaws.{got_in, got_none, got_out, wrote_in, wrote_none, wrote_not_yet, wrote_out}}
 
 -- ---- one write
 
@@ -15,6 +15,15 @@ wrote before now count from is same later = record {
   came_in = wrote_in before.traffic now.traffic (Count count) from is;
   went_out = wrote_out before.traffic now.traffic count from is;
   ended = end_stays before.traffic now.traffic (Count count) from is;
+  number = same;
+  later = later;
+}
+
+pub wrote_nothing_yet : (before now : LinkView) (from : List ℕ) → now.traffic ≡ option_map (λ t. after_write t PutNotYet from) before.traffic → now.number ≡ before.number → before.faults ≤ now.faults → Passes [] [] before now
+wrote_nothing_yet before now from is same later = record {
+  came_in = wrote_in before.traffic now.traffic PutNotYet from is;
+  went_out = wrote_not_yet before.traffic now.traffic from is;
+  ended = end_stays before.traffic now.traffic PutNotYet from is;
   number = same;
   later = later;
 }
@@ -34,6 +43,21 @@ sends_more bytes rest left count a b c is so_far more = record {
   went = so_far.went ++ take count rest;
   whole = so_far.whole ∙ ap (λ (l : List ℕ). so_far.went ++ l) (sym (take-append-drop count rest) ∙ ap (λ (l : List ℕ). take count rest ++ l) (sym is)) ∙ sym (append_assoc so_far.went (take count rest) left);
   passes = passes_both [] so_far.went [] (take count rest) a b c so_far.passes more;
+}
+
+-- a link that tells the same has sent the same
+pub sent_as : (bytes rest : List ℕ) (a : LinkView) (before now : Option Traffic) (number_before number_now faults_before faults_now : ℕ) → now ≡ before → number_now ≡ number_before → faults_now ≡ faults_before
+    → SentAllBut rest bytes a (link_view before number_before faults_before) → SentAllBut rest bytes a (link_view now number_now faults_now)
+sent_as bytes rest a before now number_before number_now faults_before faults_now traffic number faults sent =
+    let same : link_view now number_now faults_now ≡ link_view before number_before faults_before = cc in
+    subst (SentAllBut rest bytes a) (sym same) sent
+
+-- nothing more is sent
+pub sends_on : (bytes rest : List ℕ) (a b c : LinkView) → SentAllBut rest bytes a b → Passes [] [] b c → SentAllBut rest bytes a c
+sends_on bytes rest a b c so_far more = record {
+  went = so_far.went;
+  whole = so_far.whole;
+  passes = subst (λ (went : List ℕ). Passes [] went a c) (append-nil so_far.went) (passes_both [] so_far.went [] [] a b c so_far.passes more);
 }
 
 -- ---- one read
@@ -69,6 +93,10 @@ has_ended : (before now : Option Traffic) (into : List ℕ) → now ≡ option_m
 has_ended None now into is = subst HasEnded (sym is) tt
 has_ended (Some t) now into is = subst HasEnded (sym is) refl
 
+is_waiting : (before now : Option Traffic) (into : List ℕ) → now ≡ option_map (λ t. after_read t NotYet into) before → IsWaiting now
+is_waiting None now into is = subst IsWaiting (sym is) tt
+is_waiting (Some t) now into is = subst IsWaiting (sym is) refl
+
 -- what one read did, where what it gave comes after what stood
 pub has_read : (result : Got) (into unread_before unread_now : List ℕ) (before now : LinkView) → GotWithin result (length into) → now.traffic ≡ option_map (λ t. after_read t result into) before.traffic → now.number ≡ before.number
     → IsCounted before.faults now.faults (result ≡ Failed) → unread_now ≡ unread_before ++ got_bytes result into → Reads result unread_before unread_now before now
@@ -85,17 +113,33 @@ has_read (Bytes count) into unread_before unread_now before now within is same c
   };
 }
 has_read NotYet into unread_before unread_now before now within is same counted behind =
-    nothing_came unread_before unread_now before now NotYet into (λ t. refl) is same counted.later behind
+    (nothing_came unread_before unread_now before now NotYet into (λ t. refl) is same counted.later behind, is_waiting before.traffic now.traffic into is)
 has_read End into unread_before unread_now before now within is same counted behind =
     (nothing_came unread_before unread_now before now End into (λ t. refl) is same counted.later behind, has_ended before.traffic now.traffic into is)
 has_read Failed into unread_before unread_now before now within is same counted behind =
     (nothing_came unread_before unread_now before now Failed into (λ t. refl) is same counted.later behind, counted.rose refl)
+
+-- one look after others that found nothing
+pub received_then : (unread0 unread1 unread2 : List ℕ) (a b c : LinkView) → ReceivesNothing unread0 unread1 a b → Receives unread1 unread2 b c → Receives unread0 unread2 a c
+received_then unread0 unread1 unread2 a b c none some = record {
+  came = some.came;
+  some = some.some;
+  unread = some.unread ∙ ap (λ (l : List ℕ). l ++ some.came) none.unread;
+  passes = passes_both [] [] some.came [] a b c none.passes some.passes;
+}
+
+pub nothing_then : (unread0 unread1 unread2 : List ℕ) (a b c : LinkView) → ReceivesNothing unread0 unread1 a b → ReceivesNothing unread1 unread2 b c → ReceivesNothing unread0 unread2 a c
+nothing_then unread0 unread1 unread2 a b c none more = record { unread = more.unread ∙ none.unread; passes = passes_both [] [] [] [] a b c none.passes more.passes }
 
 -- ---- sound links
 
 pub wrote_sound : (ended : Bool) (before now : Option Traffic) (count : ℕ) (from : List ℕ) → now ≡ option_map (λ t. after_write t (Count count) from) before → IsSound ended before → IsSound ended now
 wrote_sound ended None now count from is sound = subst (IsSound ended) (sym is) tt
 wrote_sound ended (Some t) now count from is sound = subst (IsSound ended) (sym is) (sound.0, or_from t.went_on t.failed sound.1 sound.0, sound.2)
+
+pub not_yet_sound : (ended : Bool) (before now : Option Traffic) (from : List ℕ) → now ≡ option_map (λ t. after_write t PutNotYet from) before → IsSound ended before → IsSound ended now
+not_yet_sound ended None now from is sound = subst (IsSound ended) (sym is) tt
+not_yet_sound ended (Some t) now from is sound = subst (IsSound ended) (sym is) (sound.0, or_from t.went_on t.failed sound.1 sound.0, sound.2)
 
 pub write_left : (ended : Bool) (before now : Option Traffic) (from : List ℕ) → now ≡ option_map (λ t. after_write t PutFailed from) before → IsSound ended before → IsLeftFor LinkFailed now
 write_left ended None now from is sound = subst (IsLeftFor LinkFailed) (sym is) tt

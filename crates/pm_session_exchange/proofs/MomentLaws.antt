@@ -1,7 +1,8 @@
 -- Laws of what a child heeds between two moments, and of what ends its session.
-use Rattle.std.{proofs.Common.{◌≡◌, ℕ, Bool, true, false, Option, None, Some, refl, sym, ◌∙◌, ap, subst, arith}, specs.Option.option_map}
+use Rattle.std.{proofs.Common.{◌≡◌, ◌≤◌, ℕ, Bool, true, false, Option, None, Some, refl, sym, ◌∙◌, ap, subst, arith}, specs.Option.option_map}
+use Rattle.pm_outside.proofs.pm_disk.DiskLaws.{rose_from}
 use Rattle.pm_child_life.{specs.{pm_supervisor.declared.Reason.Reason, declared.standing.Standing.Standing, Life.{Child, Told, Kill, Quit, Terminate, asked_cancel}, Attention.{Attention, attention, IsAttentive, Hears}}, proofs.AttentionLaws.{given_of, hears_none}}
-use Rattle.pm_session_exchange.specs.{declared.ending.Cause.{Cause, TheVariants.{ToldToTerminate, ToldToQuit, Killed}}, Exchange.LinkView, Attention.{ends_by, ends_of}, Moments.{Attends, ShowsCause, IsBreak}}
+use Rattle.pm_session_exchange.specs.{declared.ending.Cause.{Cause, TheVariants.{Terminated, Cancelling, LinkEnded, LinkFailed, TimedOut, PacketRefused, MessageRefused, DecisionRefused, GateRefused, ShortOfMemory, Panicked, ToldToTerminate, ToldToQuit, Killed, Overtaken}}, Exchange.LinkView, Attention.{ends_by, ends_of}, Moments.{Attends, ShowsCause, IsBreak}}
 
 -- ---- heeding, up to a cancel
 
@@ -47,3 +48,21 @@ shown_by false None false cause before now at k q t attentive is = absurd cc
 -- what ends a session was told
 pub told_cause : (at : Attention) (cause : Cause) (before now : LinkView) → IsAttentive at → ends_of at.standing ≡ Some cause → IsBreak cause × ShowsCause cause before now at
 told_cause at cause before now attentive is = shown_by at.standing.kill at.standing.quit at.standing.terminate cause before now at refl refl refl attentive is
+
+-- what shows since a moment shows since an earlier one
+pub shows_since : (cause : Cause) (first second third : LinkView) (child : Attention) → first.faults ≤ second.faults → ShowsCause cause second third child → ShowsCause cause first third child
+shows_since LinkFailed first second third child le shows = rose_from first.faults second.faults third.faults le shows
+shows_since LinkEnded first second third child le shows = shows
+shows_since ToldToTerminate first second third child le shows = shows
+shows_since (ToldToQuit reason) first second third child le shows = shows
+shows_since Killed first second third child le shows = shows
+shows_since Terminated first second third child le shows = shows
+shows_since Cancelling first second third child le shows = shows
+shows_since TimedOut first second third child le shows = shows
+shows_since (PacketRefused fault) first second third child le shows = shows
+shows_since (MessageRefused fault) first second third child le shows = shows
+shows_since DecisionRefused first second third child le shows = shows
+shows_since (GateRefused refusal) first second third child le shows = shows
+shows_since ShortOfMemory first second third child le shows = shows
+shows_since Panicked first second third child le shows = shows
+shows_since Overtaken first second third child le shows = shows

@@ -89,6 +89,21 @@ abbrev pub ReceivesOrNot : Result (Unit {0}) Cause → (unread_before unread_now
 ReceivesOrNot (Ok done) unread_before unread_now before now = Receives unread_before unread_now before now
 ReceivesOrNot (Err cause) unread_before unread_now before now = ReceivesNothing unread_before unread_now before now
 
+-- the last read found nothing yet, or the link doesn't tell
+abbrev pub IsWaiting : Option Traffic → Type 0
+IsWaiting traffic = IfSome traffic (λ t. t.waits ≡ true)
+
+-- one look took bytes, or none stood there yet, or it goes no further
+abbrev pub Looks : Result Bool Cause → (unread_before unread_now : List ℕ) → (before now : LinkView) → Type 0
+Looks (Ok true) unread_before unread_now before now = Receives unread_before unread_now before now
+Looks (Ok false) unread_before unread_now before now = ReceivesNothing unread_before unread_now before now × IsWaiting now.traffic
+Looks (Err cause) unread_before unread_now before now = ReceivesNothing unread_before unread_now before now
+
+-- a sound link goes on being sound over a look, or nothing follows
+abbrev pub HoldsLooking : Result Bool Cause → (before now : LinkView) → Type 0
+HoldsLooking (Ok came) before now = IsSound false before.traffic → IsSound false now.traffic
+HoldsLooking (Err cause) before now = IsSound false before.traffic → IsLeftFor cause now.traffic
+
 -- the same of one read
 abbrev pub HoldsReading : Got → (before now : LinkView) → Type 0
 HoldsReading (Bytes count) before now = IsSound false before.traffic → IsSound false now.traffic
@@ -99,6 +114,6 @@ HoldsReading Failed before now = IsSound false before.traffic → IsLeftFor Link
 -- one read took bytes, or didn't, and why
 abbrev pub Reads : Got → (unread_before unread_now : List ℕ) → (before now : LinkView) → Type 0
 Reads (Bytes count) unread_before unread_now before now = Receives unread_before unread_now before now
-Reads NotYet unread_before unread_now before now = ReceivesNothing unread_before unread_now before now
+Reads NotYet unread_before unread_now before now = ReceivesNothing unread_before unread_now before now × IsWaiting now.traffic
 Reads End unread_before unread_now before now = ReceivesNothing unread_before unread_now before now × HasEnded now.traffic
 Reads Failed unread_before unread_now before now = ReceivesNothing unread_before unread_now before now × HasFailed before now

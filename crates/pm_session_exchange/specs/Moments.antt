@@ -36,7 +36,7 @@ IsBreak Killed = Unit {0}
 IsBreak _ = ⊥
 
 -- it went on, or this broke it off and shows
-abbrev pub GoesOrBreaks : Result (Unit {0}) Cause → (before now : LinkView) → Attention → Type 0
+abbrev pub GoesOrBreaks : {A : Type 0} → Result A Cause → (before now : LinkView) → Attention → Type 0
 GoesOrBreaks result before now child = MatchResult result (λ done. Unit {0}) (λ cause. IsBreak cause × ShowsCause cause before now child)
 
 -- it went on, or by what it goes no further shows

@@ -1,7 +1,7 @@
 //! Reading from the client and sending to it. Before each read and each write the child takes its signals.
 ghost use Rattle.std.specs.Prelude.{◌≡◌, ◌<◌, ◌≤◌, ℕ, Bool, false, None, Some, IsTrue, length, option_map};
 ghost use Rattle.pm_child_life.specs.{Life.{HasNoCancel, IsUntried, asked_cancel, let_go}, Attention.{Hears, IsAttentive}};
-ghost use Rattle.pm_session_exchange.specs.{Attention.EndsIn, Exchange.{link_view, Holds, Sends, seen, ReceivesOrNot}, Moments.{GoesOrBreaks, GoesOrShows, GoesOrStops, Comes}, Line.MeetsGate, Room.buffer_bytes};
+ghost use Rattle.pm_session_exchange.specs.{Attention.EndsIn, Exchange.{link_view, Holds, HoldsLooking, Looks, Sends, seen, ReceivesOrNot}, Moments.{GoesOrBreaks, GoesOrShows, GoesOrStops, Comes}, Line.MeetsGate, Room.buffer_bytes};
 
 use crate::ear::Ear;
 use crate::ending::Cause;
@@ -34,7 +34,8 @@ impl<L: Link, F: Life> Line<L, F> {
         Line { link, ear }
     }
 
-    /// Sends all the bytes. A Kill breaks it off; any other signal stands until later.
+    /// Sends all the bytes. A Kill breaks it off; any other signal stands until later. Once one stands that ends the session, the
+    /// client has a second more.
     pub fn send(&mut self, bytes: &[u8]) -> Result<(), Cause>
         ensures sends { Sends result bytes.now self.old.link self.new.link }
         ensures hears { Hears 0 self.old.child self.new.child }
@@ -48,12 +49,36 @@ impl<L: Link, F: Life> Line<L, F> {
             if self.ear.is_killed() {
                 return Err(Cause::Killed);
             }
+            let is_ending = self.ear.ends().is_some();
+            hurry_where(&mut self.link, is_ending);
             match self.link.write(rest) {
                 Put::Count(count) => rest = &rest[count..],
+                Put::NotYet => {}
                 Put::Failed => return Err(Cause::LinkFailed),
             }
         }
         Ok(())
+    }
+
+    /// Asks the link once, takes the bytes that came, and tells whether any did. A signal that ends the session is heeded
+    /// before.
+    pub fn look(&mut self, inbox: &mut Inbox) -> Result<bool, Cause>
+        requires room { length inbox.old < buffer_bytes }
+        ensures came { Looks result inbox.old inbox.new self.old.link self.new.link }
+        ensures hears { Hears 1 self.old.child self.new.child }
+        ensures cause { GoesOrBreaks result self.old.link self.new.link self.new.child }
+        ensures holds { HoldsLooking result self.old.link self.new.link }
+    {
+        self.ear.listen();
+        if let Some(cause) = self.ear.ends() {
+            return Err(cause);
+        }
+        match inbox.read_from(&mut self.link) {
+            Got::Bytes(_) => Ok(true),
+            Got::NotYet => Ok(false),
+            Got::End => Err(Cause::LinkEnded),
+            Got::Failed => Err(Cause::LinkFailed),
+        }
     }
 
     /// Waits for bytes, and takes those that came, one or more. A signal that ends the session is heeded before each read.
@@ -69,15 +94,10 @@ impl<L: Link, F: Life> Line<L, F> {
         ensures holds { Holds false result self.old.link self.new.link }
     {
         for _ in means.rt.forever() {
-            self.ear.listen();
-            if let Some(cause) = self.ear.ends() {
-                return Err(cause);
-            }
-            match inbox.read_from(&mut self.link) {
-                Got::Bytes(_) => return Ok(()),
-                Got::NotYet => means.clock.pause(),
-                Got::End => return Err(Cause::LinkEnded),
-                Got::Failed => return Err(Cause::LinkFailed),
+            match self.look(inbox) {
+                Ok(true) => return Ok(()),
+                Ok(false) => means.clock.pause(),
+                Err(cause) => return Err(cause),
             }
         }
         unreachable!()
@@ -104,6 +124,18 @@ impl<L: Link, F: Life> Line<L, F> {
             }
         }
         Ok(())
+    }
+}
+
+// Tells the link whether the child that serves it is to end.
+fn hurry_where<L: Link>(link: &mut L, is_ending: bool)
+    ensures traffic { L.traffic link.new ≡ L.traffic link.old }
+    ensures number { L.number link.new ≡ L.number link.old }
+    ensures faults { L.faults link.new ≡ L.faults link.old }
+    ensures patience { L.patience link.new ≤ L.patience link.old }
+{
+    if is_ending {
+        link.hurry();
     }
 }
 

@@ -46,7 +46,7 @@ fn console_over<R: Wait + Threads + time::Clock + Copy + Drop + Sync, I: Read + 
     alloc: Global,
     input: &mut I,
 ) -> Result<Vec<u8>, Fail> {
-    let bells = Bells::new()?;
+    let bells = Bells::new(alloc, 0)?;
     let mailbox = Arc::new(alloc, Mailbox::new())?;
     let theirs = Arc::try_clone(&mailbox)?;
     let (_, all) = thread::join(

@@ -29,7 +29,7 @@ fn a_port_in_use_is_told_and_is_taken_again_behind_open_links(rt: HostRuntime) -
     let Ok(mut port) = TcpPort::new(rt, alloc, bells, number) else {
         panic!(rt; "port {number} isn't free");
     };
-    assert!(rt; matches!(port.accept(), Accepted::NotYet));
+    assert!(rt; matches!(port.accept(0), Accepted::NotYet));
     let _client = connect(&rt, &port)?;
     accept(&rt, &mut port)?;
     Ok(())
@@ -48,9 +48,9 @@ fn the_first_fault_of_a_port_is_told(rt: HostRuntime) -> Result<(), Fail> {
     assert!(rt; port.first_fault().is_none());
     // The listener is closed under the port, and then a file has its descriptor.
     libc::close(port.descriptor());
-    assert!(rt; matches!(port.accept(), Accepted::Failed));
+    assert!(rt; matches!(port.accept(0), Accepted::Failed));
     let _file = File::open(&rt, "/dev/null")?;
-    assert!(rt; matches!(port.accept(), Accepted::Failed));
+    assert!(rt; matches!(port.accept(0), Accepted::Failed));
     assert_eq!(rt; port.faults(), 2);
     let fault = port.first_fault().ok_or("nothing failed")?;
     let want = format!(in alloc; "127.0.0.1:{number}: accept: Bad file descriptor (os error 9)")?;

@@ -11,11 +11,13 @@ use std::thread::{self, Threads};
 use std::time::{Clock, Instant};
 
 /// What is done at a port, which `open` opens anew, and what it answers. Links and clients count from 0. From `start` on
-/// `within` says how many milliseconds have passed. `called` does a thing while the children are called after so many
-/// milliseconds.
+/// `within` says how many milliseconds have passed. `called` does a thing while the link's child is called after so many
+/// milliseconds. `now` shows the links the moment that it is. Where the limit is 0 and none was shown, each read that waits
+/// in vain takes 100 ms.
 const SCRIPT: &str = "
 # bytes and the end come together
 open
+limit 0
 link
 read 0 -> NotYet
 send 0 abc
@@ -30,6 +32,7 @@ take 0 -> 3
 take 0 -> 0
 # a call ends one read, but none from before the link, and it loses nothing that came beside it
 open
+limit 0
 call
 link
 start
@@ -41,20 +44,38 @@ call
 wait 20
 read 0 -> NotYet
 read 0 -> Bytes(3)
-# a greeted client is waited for
+# the call of another child ends no wait
+open
+limit 0
+call other
+link
+call other
+start
+read 0 -> NotYet
+within 100..60000
+# a client without a limit of time is waited for
 open
 link
-write 0 greeting -> Count(8)
 start
 called 400 read -> true
 within 400..4000
-# a client that takes nothing is given up a second behind a call
+# a write whose client takes nothing comes back by a call; once its child is to end, it waits for a second in all and fails
 open
 link
 start
 called 1500 fill -> true
-faults 0 -> 1
-within 2400..6000
+within 1500..6000
+faults 0 -> 0
+hurry 0
+start
+fill 0 -> Failed
+within 900..4000
+now
+hurry 0
+start
+fill 0 -> Failed
+within 0..900
+faults 0 -> 2
 # last words arrive though bytes stand unread
 open
 link
@@ -82,27 +103,59 @@ accept
 read 0 -> End
 done 0
 port faults -> 0
-# a client that isn't greeted in time is given up, and bytes that come too late change nothing
+# a client that isn't greeted in time leaves a read that answers not yet at its limit, and short ones after it, and no end
 open
-limit 150
+limit 500
 now
 link
-link
-write 1 greeting -> Count(8)
-send 0 ab
-wait 20
-read 0 -> Bytes(2)
+start
+wait 100
 now
 read 0 -> NotYet
-wait 60
-send 0 c
+within 350..5000
 now
+start
+read 0 -> NotYet
+within 100..5000
+send 0 abc
+wait 20
+read 0 -> Bytes(3)
+start
+read 0 -> NotYet
+within 100..5000
+shut 0
+wait 20
 read 0 -> End
 faults 0 -> 0
-ring
-read 1 -> NotYet
-done 0
-take 0 -> 0
+# its bytes change nothing of that, nor those that it was sent
+open
+limit 500
+now
+link
+write 0 greeting -> Count(8)
+send 0 abc
+wait 20
+read 0 -> Bytes(3)
+start
+read 0 -> NotYet
+within 500..5000
+# before its limit a client is waited for, and from a second after it on
+open
+limit 50000
+now
+link
+start
+called 400 read -> true
+within 400..4000
+open
+limit 100
+now
+link
+wait 1200
+now
+start
+called 400 read -> true
+within 400..4000
 # a pause of the supervisor ends by a tick
 open
 start
@@ -127,15 +180,16 @@ within 0..90
 start
 pause
 within 100..60000
-# its own ring goes to the children
-ring
+# its own call goes to a child
+call
 start
 pause
 within 100..60000
-# a pause of a child ends by a call since the one before
+# a pause of a child ends by a call since the one before, and by none of another child
 open
-ring
+call
 child
+call other
 start
 20 child pause
 within 200..60000
@@ -143,26 +197,33 @@ start
 20 child called
 within 0..100";
 
-// Calls the children after so many milliseconds.
+// Calls the link's child after so many milliseconds.
 fn call_later(rt: &impl Clock, bells: &Bells, ms: u64) {
     wait_ms(rt, ms);
-    bells.call_all();
+    bells.call(0);
 }
 
-// Reads once, which must give nothing yet, or writes until a write fails. 64 MB are more than the sockets take.
-fn went_on(link: &mut TcpLink, word: &str) -> bool {
+// Writes until a write takes nothing, and tells what that answers. 64 MB are more than the sockets take.
+fn filled(link: &mut TcpLink) -> Put {
+    let mut put = Put::NotYet;
+    for _ in 0..65_536 {
+        put = link.write(&[0; 1024]);
+        if !matches!(put, Put::Count(_)) {
+            break;
+        }
+    }
+    put
+}
+
+// Whether a read, or the last write of many, answers that there is nothing yet.
+fn waited_in_vain(link: &mut TcpLink, word: &str) -> bool {
     if word == "read" {
         return link.read(&mut [0; 8]) == Got::NotYet;
     }
-    for _ in 0..65_536 {
-        if link.write(&[0; 1024]) == Put::Failed {
-            return true;
-        }
-    }
-    false
+    filled(link) == Put::NotYet
 }
 
-// What the first link does while the children are called: `400 read`.
+// What the first link does while its child is called: `400 read`.
 fn called<R>(world: &mut World<R>, words: &str) -> Result<bool, Fail>
 where
     R: Threads + Clock + Sync,
@@ -171,7 +232,11 @@ where
     let ms = number(ms)?;
     let (rt, bells) = (&world.rt, &world.bells);
     let link = world.links.first_mut().ok_or("a link")?;
-    let (went, _) = thread::join(rt, || went_on(link, word), || call_later(rt, bells, ms));
+    let (went, _) = thread::join(
+        rt,
+        || waited_in_vain(link, word),
+        || call_later(rt, bells, ms),
+    );
     Ok(went)
 }
 
@@ -187,6 +252,7 @@ fn on_link<R>(
     match word {
         "read" => said(alloc, link.read(&mut [0; 8])),
         "faults" => said(alloc, link.faults()),
+        "fill" => said(alloc, filled(link)),
         _ if text.is_empty() => Err(Fail::new("no text")),
         _ => said(alloc, link.write(text.as_bytes())),
     }
@@ -198,6 +264,16 @@ fn done<R: Net + Drop>(world: &mut World<R>, at: &str) -> Result<(), Fail> {
     if at < world.links.len() {
         world.port.done(world.links.remove(at));
     }
+    Ok(())
+}
+
+// The child that serves the link of this number is to end.
+fn hurry<R>(world: &mut World<R>, at: &str) -> Result<(), Fail> {
+    world
+        .links
+        .get_mut(number(at)? as usize)
+        .ok_or("a link")?
+        .hurry();
     Ok(())
 }
 
@@ -236,18 +312,19 @@ where
         "now" => {
             world.clock.now();
         }
-        "ring" => world.clock.ring(),
+        "call" => world.clock.call(0),
+        "call other" => world.clock.call(1),
         "pause" => world.clock.pause(),
-        "child" => world.child = world.clock.another()?,
+        "child" => world.child = world.clock.another(0)?,
         "child ring" => world.child.ring(),
         "child pause" => world.child.pause(),
         "child called" => {
-            world.clock.ring();
+            world.clock.call(0);
             world.child.pause();
         }
         "door" => world.bells.door.ring(),
         "start" => world.start = Instant::now(&world.rt)?,
-        _ => world.bells.call_all(),
+        _ => return Err(Fail::new("what is done")),
     }
     Ok(())
 }
@@ -309,6 +386,7 @@ where
     match word {
         "link" | "come" => come(world, line),
         "done" => done(world, rest),
+        "hurry" => hurry(world, rest),
         "send" | "shut" => on_client(alloc, world, word, rest),
         "accept" => taken_by_port(world),
         "limit" => Ok(world.port.limit_entry(number(rest)?)),

@@ -7,7 +7,7 @@ use std::test::Fail;
 fn the_port_gives_its_link_once(rt: HostRuntime) -> Result<(), Fail> {
     let mut sent = [0; 2];
     let mut port = StandardPort::new(b"hi".as_slice(), sent.as_mut_slice());
-    let Accepted::Link(mut link) = port.accept() else {
+    let Accepted::Link(mut link) = port.accept(0) else {
         return Err(Fail::new("no link"));
     };
     let mut into = [0; 4];
@@ -18,7 +18,7 @@ fn the_port_gives_its_link_once(rt: HostRuntime) -> Result<(), Fail> {
     assert_eq!(rt; link.write(b"u"), Put::Failed);
     assert_eq!(rt; link.faults(), 1);
     port.done(link);
-    assert!(rt; matches!(port.accept(), Accepted::End));
+    assert!(rt; matches!(port.accept(0), Accepted::End));
     assert_eq!(rt; port.faults(), 0);
     assert_eq!(rt; sent, *b"yo");
     Ok(())
@@ -51,6 +51,6 @@ fn the_clock_goes_on_while_it_pauses(rt: HostRuntime) -> Result<(), Fail> {
     }
     let after = clock.now();
     assert!(rt; before < after);
-    assert!(rt; after <= clock.another()?.now());
+    assert!(rt; after <= clock.another(0)?.now());
     Ok(())
 }

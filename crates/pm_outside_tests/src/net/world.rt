@@ -24,12 +24,12 @@ pub struct World<R> {
 
 /// A free port of this machine, to which nobody has come.
 pub fn open<R: Net + Wait + Clock + Copy + Drop>(rt: R, alloc: Global) -> Result<World<R>, Fail> {
-    let bells = Arc::new(alloc, Bells::new()?)?;
+    let bells = Arc::new(alloc, Bells::new(alloc, 2)?)?;
     let Ok(port) = TcpPort::new(rt, alloc, Arc::try_clone(&bells)?, 0) else {
         return Err(Fail::new("no port"));
     };
     let clock = ServerClock::new(rt, &rt, alloc, Arc::try_clone(&bells)?, port.descriptor())?;
-    let child = clock.another()?;
+    let child = clock.another(0)?;
     Ok(World {
         rt,
         port,
@@ -53,7 +53,7 @@ where
 /// The next link of a port, for which a client stands in line.
 pub fn accept<R: Net + Clock + Drop>(rt: &R, port: &mut TcpPort<R>) -> Result<TcpLink, Fail> {
     for _ in 0..1000 {
-        match port.accept() {
+        match port.accept(0) {
             Accepted::Link(link) => return Ok(link),
             Accepted::NotYet => wait_ms(rt, 1),
             Accepted::End | Accepted::Failed => break,

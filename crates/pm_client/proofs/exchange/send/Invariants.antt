@@ -1,4 +1,4 @@
-use Rattle.std.proofs.Common.{length}
+use Rattle.std.proofs.Common.{◌+◌, length}
 use Rattle.pm_client.{specs.Sides.link_view, proofs.Links.SentBut}
 use Rattle.pm_client.proofs.exchange.send.Given as goal
 
@@ -8,4 +8,4 @@ invariant-loop-rest g l = record {
 }
 
 abbrev pub decreases-loop-rest : goal.decreases-loop-rest
-decreases-loop-rest g l = length l.rest
+decreases-loop-rest g l = length l.rest + g.L.Link.patience l.link

@@ -7,7 +7,7 @@ use Rattle.pm_session.proofs.session.serve.Goals as goal
 
 abbrev Short : (g : _) → goal.After-done g → Type 0
 Short g c =
-    Connected g.S.Store c.args.admission (g.C.Clock.gives c.args.means.now.clock.now) c.close_short_of_memory-exit.result
+    Connected g.S.Store c.args.admission (g.C.Clock.gives c.args.means.now.clock.now) c.args.conf.now.authentication_ms c.close_short_of_memory-exit.result
     (moment c.new-line.result.link [] c.args.store.now c.new-line.result.child) (moment c.close_short_of_memory-exit.new.line.link [] c.args.store.now c.close_short_of_memory-exit.new.line.child)
 
 short : (g : _) (c : goal.After-done g) → Short g c
@@ -15,7 +15,7 @@ short g c =
     let at : c.new-line.result.child ≡ _ = c.new-line.ensures.child ∙ c.new.ensures in
     let told0 = ap (λ (at : Attention). at.told) at in
     let child0 = ap (λ (at : Attention). at.child) at in
-    connected_not g.S.Store c.args.admission _ _ _ _ c.args.store.now c.new-line.result.child _ (g.met.S.Store.at_rest _)
+    connected_not g.S.Store c.args.admission _ _ _ _ _ c.args.store.now c.new-line.result.child _ (g.met.S.Store.at_rest _)
     (subst (λ (l : LinkView). IsFresh l.traffic) (sym c.new-line.ensures.link) c.requires.fresh) (ap (λ (child : Child). child.attached) child0 ∙ c.requires.free)
     (subst (λ (t : Option Told). IfSome t (λ told. told ≡ nothing_told)) (sym told0) c.requires.untold) c.close_short_of_memory-exit.ensures.closes
 
@@ -33,7 +33,7 @@ returns-in_default-clause-session g c =
 
 pub returns-in_default-clause-heeds : goal.returns-in_default-clause-heeds
 returns-in_default-clause-heeds g c =
-    connected_heeds g.S.Store c.args.admission _ _ _ (moment c.new-line.result.link [] c.args.store.now c.new-line.result.child) (moment c.close_short_of_memory-exit.new.line.link [] c.args.store.now c.close_short_of_memory-exit.new.line.child) _
+    connected_heeds g.S.Store c.args.admission _ _ _ _ (moment c.new-line.result.link [] c.args.store.now c.new-line.result.child) (moment c.close_short_of_memory-exit.new.line.link [] c.args.store.now c.close_short_of_memory-exit.new.line.child) _
     c.done.ensures.status c.done.ensures.told (short g c)
 
 pub returns-in_default-clause-number : goal.returns-in_default-clause-number
@@ -70,7 +70,7 @@ returns-clause-session g c =
 
 pub returns-clause-heeds : goal.returns-clause-heeds
 returns-clause-heeds g c =
-    connected_heeds g.S.Store c.args.admission _ _ _ (at_desk c.new-desk.result c.in-Ok.inbox c.args.store.now) (at_desk c.session-exit.new.self c.session-exit.new.inbox c.session-exit.new.store) _
+    connected_heeds g.S.Store c.args.admission _ _ _ _ (at_desk c.new-desk.result c.in-Ok.inbox c.args.store.now) (at_desk c.session-exit.new.self c.session-exit.new.inbox c.session-exit.new.store) _
     c.done-2.ensures.status (c.done-2.ensures.told ∙ ap (λ (at : Attention). at.told) c.into_line.ensures.child) c.session-exit.ensures.session
 
 pub returns-clause-number : goal.returns-clause-number

@@ -1,6 +1,6 @@
 use Rattle.std.proofs.Common.{◌∙◌, refl, subst}
-use Rattle.pm_session_exchange.specs.{pm_query.Calls.User, Answers.IsOvertakenBy}
-use Rattle.pm_session.proofs.{Said.shows_since, Conversing.{conversing_none, conversing_then, conversed_then, conversing_as, conversed_as}}
+use Rattle.pm_session_exchange.{specs.{pm_query.Calls.User, Answers.IsOvertakenBy}, proofs.MomentLaws.shows_since}
+use Rattle.pm_session.proofs.Conversing.{conversing_none, conversing_then, conversed_then, conversing_as, conversed_as}
 use Rattle.pm_session.proofs.desk.Desk.converse.Goals as goal
 
 pub loop-init : goal.loop-init

@@ -1,4 +1,4 @@
-use Rattle.std.proofs.Common.{Bool, length}
+use Rattle.std.proofs.Common.{◌+◌, Bool, length}
 use Rattle.pm_child_life.specs.Attention.{Hears}
 use Rattle.pm_session_exchange.specs.Exchange.{link_view, IsSound, SentAllBut}
 use Rattle.pm_session_exchange.proofs.line.Line.send.Given as goal
@@ -11,4 +11,4 @@ invariant-loop-rest g l = record {
 }
 
 abbrev pub decreases-loop-rest : goal.decreases-loop-rest
-decreases-loop-rest g l = length l.rest
+decreases-loop-rest g l = length l.rest + g.L.Link.patience l.self-inside.link
