@@ -137,6 +137,6 @@ module _ {D : Type 0} where
     pub last : List RosterStep
     pub steps : d.notes.steps ≡ board_steps count moves ++ last
     pub final : AllByRecursion (IsFinal (seating_of count moves).seats) last
-    pub begun : (k : ℕ) → (others : List Begun) × AllByRecursion (λ b. b.kind ≡ kind.DeadEnd) others × (map begun_of (slot_at d k).past ≡ begun_at count k moves ++ others)
+    pub begun : (k : ℕ) → (others : List Begun) × AreClosing others × (map begun_of (slot_at d k).past ≡ begun_at count k moves ++ others)
     pub ended : (k : ℕ) → (others : List Ended) × (map ended_of (slot_at d k).past ≡ ended_at k moves ++ others)
     pub right : BeginRightly count moves

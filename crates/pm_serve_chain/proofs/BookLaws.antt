@@ -1,6 +1,28 @@
 -- What holds of a book by those who noted its entries: the tokens, and the shared side.
-use Rattle.std.{proofs.Common.{◌≡◌, ◌≢◌, inl, inr, ℕ, ◌≤◌, Bool, true, false, List, [], ◌∷◌, length, refl, ap, subst, arith}, specs.{Prelude.{cond, nat_eq}, List.AllByRecursion}}
-use Rattle.pm_serve_crew.specs.{pm_session_answers.Own.{entries_by, is_by}, pm_supervisor_chain.Chain.{AttachOnce, InGeneration, IsAmong, attached_of, kept_of, redos_of}, pm_query.declared.book.BookEntry.{BookEntry, TheVariants.{Attached, Redone}}}
+use Rattle.std.{proofs.Common.{◌≡◌, ◌≢◌, inl, inr, ℕ, ◌≤◌, Bool, true, false, List, [], ◌∷◌, ◌++◌, length, refl, sym, ap, subst, ◌∙◌, arith}, specs.{Prelude.{cond, nat_eq}, List.AllByRecursion}}
+use Rattle.pm_serve_crew.{specs.{pm_session_answers.Own.{entries_by, is_by}, pm_supervisor_chain.Chain.{AttachOnce, InGeneration, IsAmong, attached_of, gone_from, kept_of, opened_of, redos_of}, pm_query.declared.book.BookEntry.{BookEntry, TheVariants.{Opened, Attached, Redone, Gone}}, pm_store_shared.{declared.views.Noted.Noted, Log.{Line, book_of, entries_of, is_own, noted_behind, placed_rest}}}, proofs.OpenedLaws.opened_rest}
+
+-- ---- the entries of the shared side
+
+gone_line : (before : List BookEntry) (entry : BookEntry) (log : List Line)
+    → ((so_far : List ℕ) → gone_from so_far (book_of log) ≡ gone_from so_far (entries_of (placed_rest (before ++ entry ∷ []) log)))
+    → (so_far : List ℕ)
+    → gone_from so_far (entry ∷ book_of log)
+    ≡ gone_from so_far (entries_of (cond (is_own entry) (placed_rest (before ++ entry ∷ []) log) (noted_behind before entry ∷ placed_rest (before ++ entry ∷ []) log)))
+gone_line before (Opened generation) log rest so_far = ap (λ (l : List (List ℕ)). so_far ∷ l) (rest [])
+gone_line before (Gone pid) log rest so_far = rest (so_far ++ pid ∷ [])
+gone_line before _ log rest so_far = rest so_far
+
+gone_rest : (before : List BookEntry) (log : List Line) (so_far : List ℕ) → gone_from so_far (book_of log) ≡ gone_from so_far (entries_of (placed_rest before log))
+gone_rest before [] so_far = refl
+gone_rest before (l ∷ log) so_far = gone_line before l.entry log (λ s. gone_rest (before ++ l.entry ∷ []) log s) so_far
+
+-- the book's generations, and who is gone before each, are as the shared side noted them
+pub opened_own : (own : List Noted) (book : List BookEntry) (log : List Line) → book_of log ≡ book → own ≡ placed_rest [] log → opened_of (entries_of own) ≡ opened_of book
+opened_own own book log whole its = ap (λ (xs : List Noted). opened_of (entries_of xs)) its ∙ (sym (opened_rest [] log) ∙ ap opened_of whole)
+
+pub gone_own : (own : List Noted) (book : List BookEntry) (log : List Line) → book_of log ≡ book → own ≡ placed_rest [] log → gone_from [] (entries_of own) ≡ gone_from [] book
+gone_own own book log whole its = ap (λ (xs : List Noted). gone_from [] (entries_of xs)) its ∙ (sym (gone_rest [] log []) ∙ ap (gone_from []) whole)
 
 -- ---- who attached
 
@@ -69,6 +91,16 @@ pub attach_once : (book : List BookEntry) → AllByRecursion (λ user. AttachedO
 attach_once book each = once_in book book (λ pid. omega arith) each
 
 -- ---- redos
+
+-- what holds of each redo, entry by entry, with the child that noted it
+abbrev pub OfRedo : (ℕ → InGeneration → Type 0) → BookEntry → Type 0
+OfRedo P (Redone pid generation kept) = P pid (record { number = kept; generation = generation })
+OfRedo P _ = Unit {0}
+
+pub all_redos : (P : ℕ → InGeneration → Type 0) (book : List BookEntry) → AllByRecursion (OfRedo P) book → AllByRecursion (λ redo. P redo.pid redo.kept) (redos_of book)
+all_redos P [] each = tt
+all_redos P (Redone pid generation kept ∷ book) each = (each.0, all_redos P book each.1)
+all_redos P (_ ∷ book) each = all_redos P book each.1
 
 -- the redos of one child are among all
 pub redos_by : (pid : ℕ) (x : InGeneration) (book : List BookEntry) → IsAmong x (kept_of (redos_of (entries_by pid book))) → IsAmong x (kept_of (redos_of book))

@@ -1,4 +1,5 @@
 pub mod BookLaws
 pub mod ChainedLaws
 pub mod JournalLaws
+pub mod OnceLaws
 pub mod RunsLaws

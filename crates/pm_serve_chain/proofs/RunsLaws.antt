@@ -1,7 +1,7 @@
 -- What the runs of one slot are to the chain: whom they let into the store, and which redos they noted.
-use Rattle.std.{proofs.Common.{◌≡◌, ◌⊎◌, inl, inr, List, [], ◌∷◌, length, refl, sym, ap, subst, ◌∙◌, arith}, specs.{Prelude.map, List.{AllByRecursion, flat_map}}}
-use Rattle.pm_serve_crew.specs.{pm_facts.Lists.each_both, pm_session_answers.Own.entries_by, pm_board.declared.views.PastChild.PastChild, pm_supervisor_chain.Chain.{InGeneration, IsAmong, attached_of, kept_of, redos_of}, Pids.AreEntriesOf, Redos.redo_told, Uses.{HasUsed, IsWorkOf, UsesStore}, pm_query.declared.book.BookEntry.{BookEntry, TheVariants.Attached}, pm_board_acts.Board.begun_of, pm_worker.{declared.mail.MailTold.MailTold, Runs.{Run, noted_by}}}
-use Rattle.pm_serve_chain.proofs.{BookLaws.{AttachedOnce, OfUser, redos_by}, JournalLaws.{MayUse, each_so}}
+use Rattle.std.{proofs.Common.{◌≡◌, ◌⊎◌, inl, inr, ℕ, List, [], ◌∷◌, length, refl, sym, ap, subst, ◌∙◌, arith}, specs.{Prelude.map, List.{AllByRecursion, flat_map}}}
+use Rattle.pm_serve_crew.specs.{pm_facts.Lists.each_both, pm_session_answers.Own.entries_by, pm_board.declared.views.PastChild.PastChild, pm_supervisor_chain.Chain.{InGeneration, IsAmong, IsPidOf, attached_of, kept_of, redos_of}, Pids.AreEntriesOf, Redos.redo_told, Uses.{HasUsed, IsWorkOf, UsesStore}, pm_query.declared.book.BookEntry.{BookEntry, TheVariants.{Attached, Redone}}, pm_board_acts.Board.begun_of, pm_worker.{declared.mail.MailTold.MailTold, Runs.{Run, noted_by}}}
+use Rattle.pm_serve_chain.proofs.{BookLaws.{AttachedOnce, OfRedo, OfUser, redos_by}, JournalLaws.{MayUse, each_so}}
 
 -- the facts of a run beside the chain: it may use the store, and its entries in the book are those that it noted
 pub record IsIn (users : List InGeneration) (book : List BookEntry) (run : Run) : Type 0 where
@@ -38,6 +38,37 @@ pub all_run_users : (users : List InGeneration) (book : List BookEntry) (runs : 
 all_run_users users book [] each = tt
 all_run_users users book (run ∷ runs) each =
     each_both (OfUser (IsUser users book)) run.noted (noted_by runs) (run_users users book run each.0) (all_run_users users book runs each.1)
+
+-- where a child has exited, each end of redo that it tells of is one of these
+abbrev pub IsToldIn : List ℕ → List InGeneration → ℕ → List InGeneration → Type 0
+IsToldIn exited ends pid told = IsPidOf pid exited → AllByRecursion (λ end. IsAmong end ends) told
+
+abbrev pub HasEnd : List ℕ → List InGeneration → ℕ → InGeneration → Type 0
+HasEnd exited ends pid kept = IsPidOf pid exited → IsAmong kept ends
+
+work_redos : (exited : List ℕ) (ends : List InGeneration) (child : PastChild MailTold) (work : List BookEntry) → IsToldIn exited ends child.offer.pid (redo_told child)
+    → AllByRecursion (IsWorkOf child) work → AllByRecursion (OfRedo (HasEnd exited ends)) work
+work_redos exited ends child [] told all = tt
+work_redos exited ends child (Attached pid generation ∷ work) told all = absurd all.0
+work_redos exited ends child (Redone pid generation kept ∷ work) told all = (
+  (λ there. (subst (AllByRecursion (λ end. IsAmong end ends)) all.0.1 (told (subst (λ (p : ℕ). IsPidOf p exited) all.0.0 there))).0),
+  work_redos exited ends child work told all.1,
+)
+work_redos exited ends child (_ ∷ work) told all = (tt, work_redos exited ends child work told all.1)
+
+run_redos : (exited : List ℕ) (ends : List InGeneration) (run : Run) → UsesStore run.child run.noted → IsToldIn exited ends run.child.offer.pid (redo_told run.child)
+    → AllByRecursion (OfRedo (HasEnd exited ends)) run.noted
+run_redos exited ends run uses told = by uses.inside
+  where
+    by : (run.noted ≡ []) ⊎ HasUsed run.child run.noted → AllByRecursion (OfRedo (HasEnd exited ends)) run.noted
+    by (inl nothing) = subst (AllByRecursion (OfRedo (HasEnd exited ends))) (sym nothing) tt
+    by (inr used) = subst (AllByRecursion (OfRedo (HasEnd exited ends))) (sym used.is) (tt, work_redos exited ends run.child used.work told used.of_it)
+
+pub all_run_redos : (exited : List ℕ) (ends : List InGeneration) (runs : List Run) → AllByRecursion (λ run. UsesStore run.child run.noted) runs
+    → AllByRecursion (λ run. IsToldIn exited ends run.child.offer.pid (redo_told run.child)) runs → AllByRecursion (OfRedo (HasEnd exited ends)) (noted_by runs)
+all_run_redos exited ends [] uses told = tt
+all_run_redos exited ends (run ∷ runs) uses told =
+    each_both (OfRedo (HasEnd exited ends)) run.noted (noted_by runs) (run_redos exited ends run uses.0 told.0) (all_run_redos exited ends runs uses.1 told.1)
 
 -- the end of redo that a run's child tells of, the book has
 run_ends : (users : List InGeneration) (book : List BookEntry) (run : Run) → IsIn users book run → AllByRecursion (λ end. IsAmong end (kept_of (redos_of book))) (redo_told run.child)
