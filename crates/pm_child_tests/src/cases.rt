@@ -7,12 +7,8 @@ use std::test::Fail;
 use std::time;
 
 /// What a connection is, what it meets, what comes in, how it exits, and then what goes out.
-const TABLE: &str = "
+const TABLE: &str = r"
 nothing | - | - | Code(0)
-part of a length | - | PART_OF_LENGTH | Code(0)
-part of a packet | - | PART_OF_PACKET | Code(0)
-length 7 | - | LENGTH_7 | Code(0)
-length 10005 | - | LENGTH_10005 PACKET | Code(0)
 a cancel | - | CANCEL | Code(0)
 no user | - | NO_USER | Code(1) NO_USER_NAMED
 replication | - | REPLICATION | Code(1) NO_REPLICATION
@@ -20,12 +16,22 @@ encryption and a cancel | - | GSS SSL CANCEL | Code(0) NN
 a second request | - | SSL SSL | Code(1) N SECOND_SSL
 both requests and a session | - | SSL GSS PACKET TERMINATE | Code(0) NN GREETING
 a session whose client goes | - | PACKET | Code(0) GREETING
-queries, answered in order | - | PACKET EMPTY SELECT_SEVEN NO_TEXT NO_SCRIPT TERMINATE EMPTY | Code(0) GREETING EMPTY_ANSWER NO_ROW NOT_UTF8 SYNTAX_ERROR
+queries, answered in order | - | PACKET EMPTY SELECT_SEVEN NO_TEXT NO_SCRIPT TERMINATE EMPTY | Code(0) GREETING EMPTY_ANSWER COLUMNS NO_ROW NOT_UTF8 SYNTAX_ERROR
 an unknown type | - | PACKET EMPTY QUESTION EMPTY | Code(1) GREETING EMPTY_ANSWER UNKNOWN_TYPE
 the extended protocol | - | PACKET EMPTY PARSE EMPTY | Code(1) GREETING EMPTY_ANSWER EXTENDED
-a long query | - | PACKET EMPTY TOO_LONG_QUERY EMPTY | Code(1) GREETING EMPTY_ANSWER LONG_QUERY
-a query of length 3 | - | PACKET EMPTY SHORT_QUERY EMPTY | Code(1) GREETING EMPTY_ANSWER BAD_LENGTH
-a Terminate of length 5 | - | PACKET EMPTY LONG_TERMINATE EMPTY | Code(1) GREETING EMPTY_ANSWER BAD_LENGTH
+a query of length 0 | - | PACKET EMPTY Q\0\0\0\0 EMPTY | Code(1) GREETING EMPTY_ANSWER BAD_LENGTH
+a query of length 3 | - | PACKET EMPTY Q\0\0\0\x03 EMPTY | Code(1) GREETING EMPTY_ANSWER BAD_LENGTH
+a query of length 4 | - | PACKET EMPTY Q\0\0\0\x04 EMPTY | Code(1) GREETING EMPTY_ANSWER BAD_FORM
+a query of length 65541 | - | PACKET Q\0\x01\0\x05 \x20*65536 \0 TERMINATE | Code(0) GREETING EMPTY_ANSWER
+a query of length 65542 | - | PACKET EMPTY Q\0\x01\0\x06 EMPTY | Code(1) GREETING EMPTY_ANSWER LONG_QUERY
+a query of length 4294967295 | - | PACKET EMPTY Q\xff\xff\xff\xff EMPTY | Code(1) GREETING EMPTY_ANSWER LONG_QUERY
+a Terminate of length 0 | - | PACKET EMPTY X\0\0\0\0 EMPTY | Code(1) GREETING EMPTY_ANSWER BAD_LENGTH
+a Terminate of length 3 | - | PACKET EMPTY X\0\0\0\x03 EMPTY | Code(1) GREETING EMPTY_ANSWER BAD_LENGTH
+a Terminate of length 4 | - | PACKET EMPTY X\0\0\0\x04 EMPTY | Code(0) GREETING EMPTY_ANSWER
+a Terminate of length 5 | - | PACKET EMPTY X\0\0\0\x05 EMPTY | Code(1) GREETING EMPTY_ANSWER BAD_LENGTH
+a Terminate of length 65541 | - | PACKET EMPTY X\0\x01\0\x05 EMPTY | Code(1) GREETING EMPTY_ANSWER BAD_LENGTH
+a Terminate of length 65542 | - | PACKET EMPTY X\0\x01\0\x06 EMPTY | Code(1) GREETING EMPTY_ANSWER BAD_LENGTH
+a Terminate of length 4294967295 | - | PACKET EMPTY X\xff\xff\xff\xff EMPTY | Code(1) GREETING EMPTY_ANSWER BAD_LENGTH
 a query without its end | - | PACKET EMPTY QUERY_WITHOUT_END EMPTY | Code(1) GREETING EMPTY_ANSWER BAD_FORM
 while the server starts | startup | PACKET TERMINATE | Code(1) STARTING_UP
 in recovery | recovery | PACKET TERMINATE | Code(1) IN_RECOVERY

@@ -47,11 +47,13 @@ fn link_of(alloc: Global, incoming: &str, per_call: usize) -> Result<MemLink, Al
     Ok(MemLink::new(alloc, 1, script, None))
 }
 
-/// What a connection came to: how its child exited, all that went out, and what its life and its clock tell then.
+/// What a connection came to: how its child exited, all that went out, the store that it leaves, and what its life and its clock
+/// tell then.
 #[derive(Drop)]
 pub struct Outcome {
     pub status: Status,
     pub sent: Vec<u8>,
+    pub store: MemStore<Kept<BookEntry>>,
     pub pid: u32,
     pub attached: Option<u32>,
     pub asked_cancel: Option<(u32, u32)>,
@@ -71,13 +73,26 @@ pub fn serve_case<R: Wait, C: Clock>(
     requires { 0 < per_call }
 {
     let link = link_of(alloc, incoming, per_call)?;
+    serve_link(rt, alloc, meets, link, 60_000, clock)
+}
+
+/// Serves a connection on this link, whose client may take so many milliseconds up to its startup packet. It meets what
+/// [`serve_case`] says.
+pub fn serve_link<R: Wait, C: Clock>(
+    rt: &R,
+    alloc: Global,
+    meets: &str,
+    link: MemLink,
+    authentication_ms: u64,
+    clock: &C,
+) -> Result<Outcome, Fail>
+    requires { link_traffic link ≡ no_traffic }
+{
     let script = script_of(alloc, meets.strip_prefix("told ").unwrap_or(""))?;
     let gate = gate_of(meets.strip_prefix("gate ").unwrap_or(""));
     let life = ScriptedLife::new(PID, false, script, gate, Cancelled::NoSuchPid);
     let mut store = MemStore::new(alloc, Kept::<BookEntry>::new(alloc));
-    let conf = SessionConf {
-        authentication_ms: 60_000,
-    };
+    let conf = SessionConf { authentication_ms };
     let means = Means { rt, alloc, clock };
     let admission = Admission {
         decision: decision_of(meets),
@@ -87,6 +102,7 @@ pub fn serve_case<R: Wait, C: Clock>(
     Ok(Outcome {
         status,
         sent: link.sent().to_vec(alloc)?,
+        store,
         pid: life.pid(),
         attached: life.attached(),
         asked_cancel: life.asked_cancel(),

@@ -15,10 +15,18 @@ mod children;
 #[cfg(test)]
 mod connection;
 #[cfg(test)]
+mod limits;
+#[cfg(test)]
 mod lives;
+#[cfg(test)]
+mod noting_clock;
+#[cfg(test)]
+mod psql;
 #[cfg(test)]
 mod short_book;
 #[cfg(test)]
 mod signals;
+#[cfg(test)]
+mod slow;
 #[cfg(test)]
 mod worker;
