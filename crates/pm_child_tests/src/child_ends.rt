@@ -39,8 +39,8 @@ another generation | checkpointer gate 2 | 1 checkpoint | Signal(6) [] Some(Stal
 a broken log | checkpointer broken | 1 checkpoint | Signal(6) [AB] Some(Broken { since: 12 }) None Some(1)
 no memory to enter for the last checkpoint | checkpointer short 1 | checkpoint | Code(1) [] Some(NoMemory) None None
 no memory for the last checkpoint | checkpointer short 2 | checkpoint | Code(1) [AD] Some(NoMemory) None None
-# one that is refused twice to enter and once for the checkpoint that is due, each time 20 pauses before the next call: then that checkpoint is made, and after it the last one
-no memory to enter, and none for a checkpoint | checkpointer due short 1 2 4 | 70 checkpoint | Code(0) [ACLD] None None None";
+# one that is refused twice to enter and once for the checkpoint that is due, each time a pause before the next call: then that checkpoint is made, and after it the last one
+no memory to enter, and none for a checkpoint | checkpointer due short 1 2 4 | 4 checkpoint | Code(0) [ACLD] None None None";
 
 #[test]
 fn children_end_as_the_table_says(rt: HostRuntime) -> Result<(), Fail> {

@@ -12,21 +12,20 @@ use pm_sql::{Script, parse};
 use std::alloc::Global;
 use std::test::Fail;
 
-// Told at its 45th ask, which comes after the 44th pause: the store is asked at once, after 20 pauses, after 40, and then at
-// once again.
+// Told at its fourth ask, which comes after the third pause: the store is asked at once, and after each pause.
 #[test]
-fn the_store_is_asked_behind_every_twentieth_pause(rt: HostRuntime) -> Result<(), Fail> {
+fn the_store_is_asked_after_every_pause(rt: HostRuntime) -> Result<(), Fail> {
     // The entering, so many calls while nothing stands, and those that the signal is for.
     let cases: [(&str, &str, &str, u64); 2] = [
         (
             "writer",
-            "44 terminate",
+            "3 terminate",
             "Code(0) [AD] None None None",
             1 + 3 + 2,
         ),
         (
             "checkpointer",
-            "44 checkpoint",
+            "3 checkpoint",
             "Code(0) [ALD] None None None",
             1 + 3 + 1,
         ),
@@ -35,7 +34,7 @@ fn the_store_is_asked_behind_every_twentieth_pause(rt: HostRuntime) -> Result<()
         let met = run(&rt, rt.alloc(), child, signals)?;
         assert_eq!(rt; met.end.as_str(), end);
         assert_eq!(rt; met.calls, calls);
-        assert_eq!(rt; met.pauses, 44);
+        assert_eq!(rt; met.pauses, 3);
     }
     Ok(())
 }

@@ -69,7 +69,7 @@ impl<J: Chronicle<PmEvent>, O: Sink, D: Disk, B: Chronicle<BookEntry>> Server<J,
 
     // The store begins its next generation.
     fn renew(&mut self, generation: u32) -> Result<(), AllocError>
-        requires { generation ≡ self.old.store.generation + 1 }
+        requires { generation ≡ (view_of self.old).store.generation + 1 }
         ensures renews { RenewsStore generation result (view_of self.old) (view_of self.new) }
         ensures supervision { self.new.supervision ≡ self.old.supervision }
     {
@@ -82,7 +82,7 @@ impl<J: Chronicle<PmEvent>, O: Sink, D: Disk, B: Chronicle<BookEntry>> Server<J,
     // Does an act, whose entry was noted.
     fn perform(&mut self, act: Act) -> Result<(), ServerEnd>
         requires { (generation : ℕ) → act ≡ Reset generation
-            → generation ≡ self.old.store.generation + 1 }
+            → generation ≡ (view_of self.old).store.generation + 1 }
         ensures performs { Performs act result (view_of self.old) (view_of self.new) }
         ensures supervision { self.new.supervision ≡ self.old.supervision }
         ensures said { (line : Line) → act ≡ Say line → self.new.store ≡ self.old.store }

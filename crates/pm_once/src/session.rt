@@ -66,7 +66,7 @@ where
     requires fresh { IsFresh (L.traffic link) }
     requires pid { 1 ≤ pid }
     ensures session { (connection : Connection) × (connection.pid ≡ pid)
-        × (connection.generation ≡ store.old.generation)
+        × (connection.generation ≡ (moment store.old).generation)
         × (connection.given ≡ link_view (L.traffic link) (L.number link) (L.faults link))
         × (connection.back ≡ link_view (L.traffic result.link) (L.number result.link)
         (L.faults result.link)) × (result.status ≡ status_of connection.ending)
@@ -95,9 +95,9 @@ where
     B: Chronicle<BookEntry>,
     requires fresh { IsFresh (L.traffic link) }
     requires pid { 1 ≤ pid }
-    requires home { store.old.generation ≡ H.home }
+    requires home { (moment store.old).generation ≡ H.home }
     ensures session { (connection : Connection) × (connection.pid ≡ pid)
-        × (connection.generation ≡ store.old.generation)
+        × (connection.generation ≡ (moment store.old).generation)
         × (connection.given ≡ link_view (L.traffic link) (L.number link) (L.faults link))
         × (connection.back ≡ link_view (L.traffic result.link) (L.number result.link)
         (L.faults result.link)) × (result.status ≡ status_of connection.ending)

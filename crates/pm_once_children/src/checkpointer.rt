@@ -57,10 +57,10 @@ pub fn write_last<R: Wait, D: Disk, B: Chronicle<BookEntry>, C: Clock>(
     clock: &C,
     pid: u32,
 ) -> Closed
-    ensures notes { (noted : List BookEntry) × CloseNotes pid store.old.generation result noted
+    ensures notes { (noted : List BookEntry) × CloseNotes pid (moment store.old).generation result noted
         × Moves noted (moment store.old) (moment store.new) }
     ensures clean { result ≡ Closed.Made → (epoch : ℕ)
-        × IsCleanAt epoch store.new.live store.new.rows (D.seen store.new.disk) }
+        × IsCleanAt epoch (moment store.new).live (moment store.new).rows (D.seen store.new.disk) }
     ensures full { result ≡ Closed.Full → IfSome (D.seen store.new.disk)
         (λ files. ∥ IsAtLastEpoch files ∥₁) }
 {
@@ -74,9 +74,9 @@ fn close_at_home<H: Home, R: Wait, D: Disk, B: Chronicle<BookEntry>, C: Clock>(
     clock: &C,
     pid: u32,
 ) -> Result<Checkpointed, StoreNo>
-    requires { store.old.generation ≡ H.home }
+    requires { (moment store.old).generation ≡ H.home }
     ensures notes { (noted : List BookEntry)
-        × CloseNotes pid store.old.generation (closed_as result) noted
+        × CloseNotes pid (moment store.old).generation (closed_as result) noted
         × Moves noted (moment store.old) (moment store.new) }
     ensures full { FullAtLast (moment store.new).files result }
     ensures afresh { MadeAfresh true (moment store.new) result }

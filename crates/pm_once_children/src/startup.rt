@@ -22,14 +22,14 @@ pub fn read_log<D: Disk, B: Chronicle<BookEntry>>(
     store: &mut Sole<D, B>,
     pid: u32,
 ) -> Result<u64, Option<StartWhy>>
-    ensures notes { (noted : List BookEntry) × StartNotes pid store.old.generation result noted
+    ensures notes { (noted : List BookEntry) × StartNotes pid (moment store.old).generation result noted
         × Moves noted (moment store.old) (moment store.new) }
     ensures reason { (fault : RedoFault) → result ≡ Err (Some (StartWhy.Redo fault))
         → IfSome (D.seen store.old.disk) (λ files. IsReason fault files) }
     ensures unread { (fault : RedoFault) → result ≡ Err (Some (StartWhy.Redo fault))
         → fault ≢ RedoFault.Disk → D.seen store.new.disk ≡ D.seen store.old.disk }
     ensures shut { (fault : RedoFault) → result ≡ Err (Some (StartWhy.Redo fault))
-        → store.new.live ≡ None }
+        → (moment store.new).live ≡ None }
 {
     match redo_at_home::<Brand, D, B>(store, pid) {
         Ok(kept) => Ok(kept),
@@ -42,9 +42,9 @@ fn redo_at_home<H: Home, D: Disk, B: Chronicle<BookEntry>>(
     store: &mut Sole<D, B>,
     pid: u32,
 ) -> Result<u64, StoreNo>
-    requires { store.old.generation ≡ H.home }
+    requires { (moment store.old).generation ≡ H.home }
     ensures notes { (noted : List BookEntry)
-        × StartNotes pid store.old.generation (started_as result) noted
+        × StartNotes pid (moment store.old).generation (started_as result) noted
         × Moves noted (moment store.old) (moment store.new) }
     ensures reason { HasReason (moment store.old).files result }
     ensures kept { LeavesFiles (moment store.old).files (moment store.new).files result }

@@ -14,10 +14,13 @@ use std::sync::{Arc, Mutex, Wait};
 use std::time::{self, Duration, Instant};
 
 /// How long a pause of the supervisor's clock is at most, in milliseconds.
-const TICK_MS: u64 = 100;
+const TICK_MS: u64 = 200;
 
 /// How long a pause of a child's clock is at most, in milliseconds.
 const PAUSE_MS: u64 = 10;
+
+/// The same of a child that rests.
+const REST_MS: u64 = 60_000;
 
 const LISTENER: Token = Token(0);
 
@@ -25,11 +28,14 @@ const DOOR: Token = Token(1);
 
 /// The time since a start, in milliseconds, by a clock of the system that never goes back. The supervisor's pauses end by
 /// a connection or at the door, and it calls the children. The pauses of a child's, made by `another`, end by a call of the
-/// child of its slot, and a ring of it goes to the door.
+/// child of its slot, and a ring of it goes to the door. A child that rests, in one of the first slots, has nothing to do until
+/// it is called: its pauses are twice as long each time, up to a minute, and short again after a call.
 #[derive(Drop)]
 pub struct ServerClock<R> {
     start: Instant,
     bells: Arc<Bells, Global>,
+    // How many slots have children that rest.
+    resting: u32,
     side: Side,
     rt: R,
 }
@@ -39,8 +45,43 @@ pub struct ServerClock<R> {
 enum Side {
     /// The supervisor's: a pause waits for a connection and at the door.
     Supervisor(Mutex<Door>),
-    /// A child's: a pause waits for a call of the child of this slot. So many were heard.
-    Child { slot: u32, heard: AtomicU64 },
+    /// A child's: a pause waits for a call of it.
+    Child(Pauses),
+}
+
+// The pauses of the child of a slot.
+#[derive(Drop)]
+struct Pauses {
+    slot: u32,
+    // How many of its calls were heard.
+    heard: AtomicU64,
+    // How long the next pause is at most, and how long any is, in milliseconds.
+    next_ms: AtomicU64,
+    longest_ms: u64,
+}
+
+impl Pauses {
+    fn new(bells: &Bells, slot: u32, longest_ms: u64) -> Pauses {
+        Pauses {
+            slot,
+            heard: AtomicU64::new(bells.calls(slot)),
+            next_ms: AtomicU64::new(PAUSE_MS),
+            longest_ms,
+        }
+    }
+
+    // Sleeps, but where there was a call since the pause before.
+    fn pause<R: Wait>(&self, rt: &R, bells: &Bells) {
+        let calls = bells.calls(self.slot);
+        if self.heard.swap(calls, Ordering::SeqCst) != calls {
+            self.next_ms.store(PAUSE_MS, Ordering::SeqCst);
+            return;
+        }
+        let ms = self.next_ms.load(Ordering::SeqCst);
+        let longer = ms.saturating_mul(2).min(self.longest_ms);
+        self.next_ms.store(longer, Ordering::SeqCst);
+        bells.wait_for_call(rt, self.slot, calls, Duration::from_millis(ms));
+    }
 }
 
 #[derive(Drop)]
@@ -50,13 +91,15 @@ struct Door {
 }
 
 impl<R: Wait + time::Clock + Copy + Drop> ServerClock<R> {
-    /// The clock of a supervisor, which starts now. Its pauses end where this descriptor, a listener's, has something new.
+    /// The clock of a supervisor, which starts now. Its pauses end where this descriptor, a listener's, has something new. The
+    /// children of so many slots, the first ones, rest.
     pub fn new<N: Net>(
         rt: R,
         net: &N,
         alloc: Global,
         bells: Arc<Bells, Global>,
         listener: RawFd,
+        resting: u32,
     ) -> io::Result<Self> {
         let start = Instant::now(&rt)?;
         let poll = Poll::new(net)?;
@@ -67,6 +110,7 @@ impl<R: Wait + time::Clock + Copy + Drop> ServerClock<R> {
         Ok(ServerClock {
             start,
             bells,
+            resting,
             side: Side::Supervisor(Mutex::new(Door { poll, events })),
             rt,
         })
@@ -98,19 +142,13 @@ impl<R: Wait + time::Clock + Copy + Drop> Clock for ServerClock<R> {
                 let Door { poll, events } = &mut *door;
                 let _ = poll.poll(events, Some(Duration::from_millis(TICK_MS)));
             }
-            Side::Child { slot, heard } => {
-                let calls = self.bells.calls(*slot);
-                if heard.swap(calls, Ordering::SeqCst) == calls {
-                    let limit = Duration::from_millis(PAUSE_MS);
-                    self.bells.wait_for_call(&self.rt, *slot, calls, limit);
-                }
-            }
+            Side::Child(pauses) => pauses.pause(&self.rt, &self.bells),
         }
     }
 
     // The supervisor's clock was made from none.
     fn ring(&self) {
-        if let Side::Child { .. } = &self.side {
+        if let Side::Child(_) = &self.side {
             self.bells.door.ring();
         }
     }
@@ -120,13 +158,16 @@ impl<R: Wait + time::Clock + Copy + Drop> Clock for ServerClock<R> {
     }
 
     fn another(&self, slot: u32) -> Result<Self, AllocError> {
+        let longest_ms = if slot < self.resting {
+            REST_MS
+        } else {
+            PAUSE_MS
+        };
         Ok(ServerClock {
             start: self.start,
             bells: Arc::try_clone(&self.bells)?,
-            side: Side::Child {
-                slot,
-                heard: AtomicU64::new(self.bells.calls(slot)),
-            },
+            resting: self.resting,
+            side: Side::Child(Pauses::new(&self.bells, slot, longest_ms)),
             rt: self.rt,
         })
     }

@@ -12,6 +12,7 @@ use pm_disk::Disk;
 use pm_modes::Mode;
 use pm_outside::{Accepted, Chronicle, Clock, Console, Link, Port, Sink};
 use pm_query::BookEntry;
+use pm_serve_pool::AUXILIARY_SLOTS;
 use pm_server::ServerEnd;
 use pm_state::PmEvent;
 use pm_worker::{Mail, NewLink};
@@ -19,9 +20,6 @@ use std::sync::Wait;
 
 /// How many slots after the others are for children that refuse a connection alone.
 const DEAD_END_SLOTS: u32 = 4;
-
-/// How many slots before the others are for children that serve no connection.
-const AUXILIARY_SLOTS: u32 = 3;
 
 // The first slot of these that nobody has. It looks at each at most.
 fn first_free<L: Link + Drop>(roster: &Roster<Mail<L>>, from: u32, to: u32) -> Option<u32>

@@ -18,4 +18,5 @@ mod postmaster;
 mod server;
 mod turning;
 
+pub use pm_serve_pool::AUXILIARY_SLOTS;
 pub use postmaster::{Served, slots, supervise};

@@ -1,5 +1,5 @@
 //! A whole run of a server.
-ghost use Rattle.std.specs.Prelude.{◌≡◌, ◌≤◌, ◌+◌, [], IfSome, option_map};
+ghost use Rattle.std.specs.Prelude.{◌≡◌, ◌≤◌, ◌+◌, ◌*◌, [], IfSome, option_map};
 ghost use Rattle.pm_server.specs.{pm_outside.Visits.no_visits, pm_server_lines.Log.view_of, Ends.end_line};
 ghost use Rattle.pm_postmaster.specs.{Outside.serve_view, Served.{IsEnded, IsServeRun, unmade_by}};
 
@@ -44,7 +44,11 @@ fn ended<O: Sink>(log: Log<O>, end: ServerEnd) -> O
 }
 
 /// How many slots a server's board has by these settings, each for a child.
-pub fn slots(conf: &Conf) -> u32 {
+pub fn slots(conf: &Conf) -> u32
+    ensures { conf.now.limits.max_connections + conf.now.limits.max_worker_processes ≤ 200
+        → result ≡ 3
+        + 2 * (conf.now.limits.max_connections + conf.now.limits.max_worker_processes) + 4 }
+{
     let limits = conf.limits;
     board_slots(
         limits

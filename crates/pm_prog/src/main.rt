@@ -16,7 +16,7 @@ use pm_outside::{Console, Forgotten, Link, MemClock, MemConsole, MemPort, Port, 
 use pm_outside_files::LogFiles;
 use pm_outside_streams::{StandardPort, StandardSink, SystemClock, fill_standard_streams};
 use pm_rows::Text;
-use pm_top::{Command, Ended, Outside, Top, read_words, run, slots};
+use pm_top::{AUXILIARY_SLOTS, Command, Ended, Outside, Top, read_words, run, slots};
 use std::alloc::Global;
 use std::env::Env;
 use std::fs;
@@ -84,6 +84,7 @@ where
                 port,
                 entry_ms: line.conf.session.authentication_ms,
                 slots: slots(&line.conf),
+                resting: AUXILIARY_SLOTS,
             };
             over_network(rt, host, &words, endpoint, disk, sink)
         }

@@ -44,13 +44,14 @@ pub struct Network<R> {
     pub console: StandardConsole<R>,
 }
 
-/// Where clients come in: a port of 127.0.0.1, how long each may take up to its greeting, in milliseconds, and how many slots there
-/// are for the children that serve them.
+/// Where clients come in: a port of 127.0.0.1, how long each may take up to its greeting, in milliseconds, how many slots there
+/// are for children, and how many of these, the first ones, are for those that rest until they are called.
 #[derive(Clone, Copy)]
 pub struct Endpoint {
     pub port: u16,
     pub entry_ms: u64,
     pub slots: u32,
+    pub resting: u32,
 }
 
 /// Listens there, and begins to read the console.
@@ -66,7 +67,14 @@ where
     let bells = bells(alloc, endpoint.slots)?;
     let mut port = TcpPort::new(rt, alloc, Arc::try_clone(&bells)?, endpoint.port)?;
     port.limit_entry(endpoint.entry_ms);
-    let clock = ServerClock::new(rt, &rt, alloc, Arc::try_clone(&bells)?, port.descriptor())?;
+    let clock = ServerClock::new(
+        rt,
+        &rt,
+        alloc,
+        Arc::try_clone(&bells)?,
+        port.descriptor(),
+        endpoint.resting,
+    )?;
     let console = standard_console(rt, alloc, stdin, bells)?;
     Ok(Network {
         port,

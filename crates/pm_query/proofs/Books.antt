@@ -1,7 +1,7 @@
 -- What holds of the history along a legal book.
 use Rattle.std.{proofs.{Common.{◌≡◌, ℕ, ◌-◌, ◌≤◌, List, [], ◌∷◌, ◌++◌, Option, None, Some, fold, refl, sym, ap, subst, ◌∙◌, arith, append_assoc, append-nil, true≢false}, lemmas.List.{take-append-le, Elements.{All-nil, All-push, All-weaker}, Sums.fold-append}, Math.Seq.take-take}, specs.Prelude.{All, Any, IsSome, is_some}}
 use Rattle.pm_rows.specs.{declared.commit.Change.Change, Standing.Standing}
-use Rattle.pm_query.{specs.{declared.book.BookEntry.{BookEntry, TheVariants.{Opened, Redone, Attached, Answered, Released, Detached, Gone, CheckpointEnded, Broke, LogFull}}, History.{History, acknowledged, beginning, count_of, kept, number, with_commit}, Book.{AnswersUpTo, Base, Course, KeepsNumber, MayFollow, MayGoOn, course_after, course_of, history_after, history_of, kept_after, kept_by_redo, present, present_after, standing_of}, BookLaws.{AckedIsWithin, AckedNeverFalls, AcknowledgedStays, RepeatChangesNothing}}, proofs.HistoryLaws.{base-with_commit, count_of-with_commit, cut_count, going-append, history_push, number_of, present_push, redone_push}}
+use Rattle.pm_query.{specs.{declared.book.BookEntry.{BookEntry, TheVariants.{Opened, Redone, Attached, Answered, Released, Detached, Gone, CheckpointEnded, Broke, LogFull}}, History.{History, acknowledged, beginning, count_of, kept, number, with_commit}, Book.{AnswersUpTo, Base, Course, KeepsNumber, MayFollow, MayGoOn, course_after, course_of, history_after, history_of, kept_after, kept_by_redo, present, present_after, standing_of}, BookLaws.{AckedIsWithin, AckedNeverFalls, AcknowledgedStays, RepeatChangesNothing}}, proofs.HistoryLaws.{base-with_commit, count_of-with_commit, answered_within, cut_count, going-append, history_push, number_of, present_push, redone_push}}
 
 -- ---- one history after another
 
@@ -182,7 +182,7 @@ step base book (Opened generation) may is = opened_step (history_of base book) (
 step base book (Redone pid generation count) may is = redo_step base book pid generation count (kept_by_redo book) refl may is
 step base book (Attached pid generation) may is = quiet_step (history_of base book) (kept_by_redo book) (present book) (Attached pid generation) tt is
 step base book (Answered pid script reply commit front tick) may is =
-    answered_step (history_of base book) (kept_by_redo book) (present book) (Answered pid script reply commit front tick) commit (omega (arith, may.front_is)) may.redone is
+    answered_step (history_of base book) (kept_by_redo book) (present book) (Answered pid script reply commit front tick) commit (answered_within (history_of base book) script reply commit front may.front_is) may.redone is
 step base book (Released pid front tick) may is = released_step (history_of base book) (kept_by_redo book) (present book) pid front tick may.answered is
 step base book (Detached pid) may is = quiet_step (history_of base book) (kept_by_redo book) (present book) (Detached pid) tt is
 step base book (Gone pid) may is = quiet_step (history_of base book) (kept_by_redo book) (present book) (Gone pid) tt is

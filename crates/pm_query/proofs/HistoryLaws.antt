@@ -1,7 +1,8 @@
 -- Laws of a book that goes on by an entry, and of its history.
-use Rattle.std.{proofs.{Common.{◌≡◌, ℕ, ◌-◌, ◌≤◌, ℤ, List, [], ◌∷◌, ◌++◌, length, Option, None, fold, refl, sym, ap, subst, ◌∙◌, arith, length-append, append_assoc, append-nil}, lemmas.List.{take_all, Elements.All-nil, Sums.fold-append}, Math.Seq.length-take-le}, specs.{Ordering.int_cmp, Prelude.All, FinMap.{empty, entries, len-empty, len-entries}}}
+use Rattle.std.{proofs.{Common.{◌≡◌, inl, inr, ℕ, ◌-◌, ◌≤◌, ℤ, List, [], ◌∷◌, ◌++◌, length, Option, None, fold, refl, sym, ap, subst, ◌∙◌, arith, length-append, append_assoc, append-nil}, lemmas.List.{take_all, Elements.All-nil, Sums.fold-append}, Math.Seq.length-take-le}, specs.{Ordering.int_cmp, Prelude.All, FinMap.{empty, entries, len-empty, len-entries}}}
 use Rattle.pm_rows.specs.{Fold.{committed, folded}, declared.commit.Change.Change, Standing.Standing}
-use Rattle.pm_query.specs.{declared.book.BookEntry.{BookEntry, TheVariants.{Opened, Attached, Redone, Answered, Released, Detached, Gone, CheckpointEnded, Broke, LogFull}}, History.{History, beginning, count_of, kept, number, rows_of, with_commit}, Limits.{HasShortRows, IsShortRow}, Book.{Base, Course, MayGoOn, course_after, generation_after, generation_of, history_after, history_of, kept_after, kept_by_redo, present, present_after, standing_of, times_after, times_attached}}
+use Rattle.pm_sql.specs.declared.stmt.Stmt.{Stmt}
+use Rattle.pm_query.specs.{declared.{item.Item.Item, book.BookEntry.{BookEntry, TheVariants.{Opened, Attached, Redone, Answered, Released, Detached, Gone, CheckpointEnded, Broke, LogFull}}}, History.{History, beginning, count_of, kept, number, rows_of, with_commit}, Limits.{HasShortRows, IsShortRow}, Book.{AnswersAt, Base, Course, MayGoOn, course_after, generation_after, generation_of, history_after, history_of, kept_after, kept_by_redo, present, present_after, standing_of, times_after, times_attached}}
 
 -- ---- one entry more
 
@@ -56,6 +57,13 @@ going-append base before (entry ∷ first) second may =
 pub count_of-with_commit : (history : History) (commit : List Change) → count_of history ≤ count_of (with_commit history commit)
 count_of-with_commit history [] = omega arith
 count_of-with_commit history (change ∷ changes) = omega (arith, length-append history.commits ((change ∷ changes) ∷ []))
+
+-- no front is past all commits
+pub answered_within : (history : History) (script : List Stmt) (reply : List Item) (commit : List Change) (front : ℕ) → AnswersAt history script reply commit front → front ≤ count_of (with_commit history commit)
+answered_within history script reply commit front at = elim at [
+  | inl is ↦ omega (arith, is)
+  | inr early ↦ omega (arith, early.within, count_of-with_commit history commit)
+]
 
 pub base-with_commit : (history : History) (commit : List Change) → (with_commit history commit).base ≡ history.base
 base-with_commit history [] = refl

@@ -3,7 +3,7 @@ use Rattle.std.{proofs.{Common.{◌≡◌, true, false, cond, List, [], ◌∷�
 use Rattle.pm_rows.{specs.{Fold.{RowMap, changed, committed}, Limits.{max_changes, IsWithinRowLimits}, declared.commit.Change.Change}, proofs.RowLaws.committed-push}
 use Rattle.pm_sql.specs.{declared.stmt.Stmt.Stmt, Limits.{IsWithinScriptLimits, is_writing}}
 use Rattle.pm_sql.specs.declared.stmt.Stmt.TheVariants as stmts
-use Rattle.pm_query.{specs.{declared.item.Item.{Item, TheVariants.Empty}, Answer.{Progress, is_error, has_error, has_failed, with_change, effect_of, advanced, after_statement, start_on, after_script, items_of, commit_of}, Laws.{CommitLeavesRows, ErrorsComeLast, OnlyWritesCommit}, Limits.{HasShortRows, HasShortValues, IsShortChange, IsWithinCommitLimits}}, proofs.Keeping.{IsKept, kept_script}}
+use Rattle.pm_query.{specs.{declared.item.Item.{Item, TheVariants.Empty}, Answer.{Progress, is_error, has_error, has_failed, with_change, effect_of, advanced, after_statement, start_on, after_script, items_of, commit_of}, Laws.{CommitLeavesRows, ErrorsComeLast, OnlyWritesCommit}, Limits.{HasShortRows, HasShortValues, IsShortChange, IsWithinCommitLimits}}, proofs.{Keeping.{IsKept, kept_script}, ReadingLaws.reads_commit_nothing}}
 
 none_last : (rows : RowMap) (changes : List Change) → committed rows (changes ++ []) ≡ committed rows changes
 none_last rows [] = refl
@@ -37,36 +37,6 @@ commit_leaves_rows_law rows (stmt ∷ script) h =
 pub failure_commits_nothing : (rows : RowMap) (script : List Stmt) → IsTrue (has_error (items_of rows script)) → commit_of rows script ≡ []
 failure_commits_nothing rows [] h = refl
 failure_commits_nothing rows (stmt ∷ script) h = ap (λ b. cond b [] (after_script rows (stmt ∷ script)).changes) h
-
--- a statement that doesn't write makes no change
-no_change : (rows : RowMap) (stmt : Stmt) → is_writing stmt ≡ false → (effect_of rows stmt).change ≡ None
-no_change rows (stmts.Insert key value) reads = cc
-no_change rows (stmts.Update key value) reads = cc
-no_change rows (stmts.Delete key) reads = cc
-no_change rows (stmts.Select None) reads = refl
-no_change rows (stmts.Select (Some key)) reads = refl
-no_change rows stmts.Count reads = refl
-no_change rows (stmts.Sleep seconds) reads = refl
-
-reads_statement : (progress : Progress) (stmt : Stmt) → is_writing stmt ≡ false → progress.changes ≡ [] → (after_statement progress stmt).changes ≡ []
-reads_statement progress stmt reads none =
-    elim (has_failed progress) as (λ b. (cond b progress (advanced progress (effect_of progress.rows stmt))).changes ≡ []) [
-      | true ↦ none
-      | false ↦ rw (none, no_change progress.rows stmt reads) refl
-    ]
-
-reads_script : (progress : Progress) (script : List Stmt) → list_any is_writing script ≡ false → progress.changes ≡ [] → (fold after_statement progress script).changes ≡ []
-reads_script progress [] reads none = none
-reads_script progress (stmt ∷ script) reads none =
-    let both = or_parts (is_writing stmt) (list_any is_writing script) reads in
-    reads_script (after_statement progress stmt) script both.1 (reads_statement progress stmt both.0 none)
-
-reads_commit_nothing : (rows : RowMap) (script : List Stmt) → list_any is_writing script ≡ false → commit_of rows script ≡ []
-reads_commit_nothing rows script reads =
-    elim (has_failed (after_script rows script)) as (λ b. cond b [] (after_script rows script).changes ≡ []) [
-      | true ↦ refl
-      | false ↦ reads_script (start_on rows) script reads refl
-    ]
 
 pub only_writes_commit_law : OnlyWritesCommit
 only_writes_commit_law rows script some =

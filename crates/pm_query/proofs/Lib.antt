@@ -3,6 +3,7 @@ pub mod Merging
 pub mod Sizes
 pub mod Shown
 pub mod Scripts
+pub mod ReadingLaws
 pub mod LawProofs
 pub mod Keeping
 pub mod Books

@@ -1,5 +1,5 @@
 -- Why the worked books are legal, or not.
-use Rattle.std.{proofs.{Common.{◌≡◌, ℕ, ℤ, pos, ◌≤◌, false, cond, List, [], ◌∷◌, ◌++◌, length, is_some, nat_le, refl, sym, ap, arith, lit≤, lit<}, lemmas.{List.Elements.{All-nil, All-cons}, Bool.Decides.nat_tests}}, specs.{Prelude.{All, codes}, Ordering.int_cmp, FinMap.{empty, get, insert, get-empty, len-empty}, Option.option_to_list}}
+use Rattle.std.{proofs.{Common.{◌≡◌, inl, ℕ, ℤ, pos, ◌≤◌, false, cond, List, [], ◌∷◌, ◌++◌, length, is_some, nat_le, refl, sym, ap, arith, lit≤, lit<}, lemmas.{List.Elements.{All-nil, All-cons}, Bool.Decides.nat_tests}}, specs.{Prelude.{All, codes}, Ordering.int_cmp, FinMap.{empty, get, insert, get-empty, len-empty}, Option.option_to_list}}
 use Rattle.pm_rows.{specs.{Limits.{max_rows, max_value_bytes}, Size.{row_size, size_of, size_at}, declared.commit.Change.{Change, TheVariants.Put}}, proofs.RowLaws.{size-empty, size-insert}}
 use Rattle.pm_query.{specs.{declared.{effect.Effect.Effect, book.BookEntry.{BookEntry, TheVariants.{Attached, Answered, Redone}}}, Answer.{makes, insertion, is_full, is_too_large, has_error}, Book.IsLegal, WorkedBooks.{nothing, insert_seven, seven_inserted, one_insert, answered, forgotten, unanswered}}, proofs.Books.{AnswersWithin, answer_within}}
 use Rattle.pm_query.specs.declared.item.Item.TheVariants as items
@@ -36,7 +36,7 @@ answered_is_legal =
                     attached = lit≤ tt;
                     reply_is = ap (λ (effect : Effect). effect.item ∷ []) (sym first);
                     commit_is = ap committed_by (sym first);
-                    front_is = refl;
+                    front_is = inl refl;
                     in_time = lit≤ tt;
                     unclosed = λ t. cc;
                   },

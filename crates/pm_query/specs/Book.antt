@@ -1,8 +1,8 @@
 -- Which books are legal: what has to hold of the entries before an entry, for each kind of entry.
 use Rattle.std.specs.{Prelude.{◌≡◌, ◌⊎◌, ℕ, ◌+◌, ◌-◌, ◌^◌, ◌<◌, ◌≤◌, max, cond, nat_eq, Bool, true, false, ◌&&◌, List, [], ◌∷◌, ◌++◌, fold, Any, All, Option, None, Some, is_some, IsSome, IsTrue}, List.{Contains, list_any}}
-use Rattle.pm_sql.specs.{pm_rows.{Fold.RowMap, Limits.max_file_bytes, declared.commit.Change.Change, Standing.Standing}, declared.stmt.Stmt.Stmt}
+use Rattle.pm_sql.specs.{pm_rows.{Fold.RowMap, Limits.max_file_bytes, declared.commit.Change.Change, Standing.Standing}, Limits.is_writing, declared.stmt.Stmt.Stmt}
 use Rattle.pm_sql.specs.pm_rows.LogSize as log
-use Rattle.pm_query.specs.{declared.{item.Item.Item, book.BookEntry.{BookEntry, TheVariants.{Opened, Redone, Attached, Answered, Released, Detached, Gone, CheckpointEnded, Broke, LogFull}}}, Answer.{items_of, commit_of}, History.{History, beginning, count_of, rows_of, with_commit, acknowledged, kept}}
+use Rattle.pm_query.specs.{declared.{item.Item.Item, book.BookEntry.{BookEntry, TheVariants.{Opened, Redone, Attached, Answered, Released, Detached, Gone, CheckpointEnded, Broke, LogFull}}}, Answer.{items_of, commit_of}, History.{History, beginning, count_of, rows_of, with_commit, acknowledged, kept, number}}
 
 -- What the first redo finds: the rows, the number of commits that left them, the bytes of the log file up to and with
 -- its closed gate, and the disk's count of faults as it was handed in.
@@ -166,6 +166,18 @@ pub record MayRedo (base : Base) (before : List BookEntry) (pid generation count
   pub attached : IsAttached before pid
   pub number : KeepsNumber before (kept_by_redo before) (history_of base before) count
 
+-- A script that writes nothing has the same reply on the rows of this number, which is none before what is acknowledged.
+pub record ReadsEarlier (history : History) (script : List Stmt) (reply : List Item) (front : ℕ) : Type 0 where
+  pub reads : list_any is_writing script ≡ false
+  pub acked : history.acked ≤ front
+  pub within : front ≤ count_of history
+  pub same : reply ≡ items_of (number history front).rows script
+
+-- The front of an answer is the number of all commits, with its own, or an earlier one that shows the same.
+abbrev pub AnswersAt : History → List Stmt → List Item → List Change → ℕ → Type 0
+AnswersAt history script reply commit front =
+    (front ≡ count_of (with_commit history commit)) ⊎ ReadsEarlier history script reply front
+
 -- An answer, after a redo, to a child that is attached: reply and commit are those of the script on the rows here. After
 -- a checkpoint that left the log clean it commits nothing.
 pub record MayAnswer (base : Base) (before : List BookEntry) (pid : ℕ) (script : List Stmt) (reply : List Item) (commit : List Change) (front tick : ℕ) : Type 0 where
@@ -173,7 +185,7 @@ pub record MayAnswer (base : Base) (before : List BookEntry) (pid : ℕ) (script
   pub attached : IsAttached before pid
   pub reply_is : reply ≡ items_of (rows_of (history_of base before)) script
   pub commit_is : commit ≡ commit_of (rows_of (history_of base before)) script
-  pub front_is : front ≡ count_of (with_commit (history_of base before) commit)
+  pub front_is : AnswersAt (history_of base before) script reply commit front
   pub in_time : last_tick before ≤ tick
   pub unclosed : IsTrue (is_closed before) → commit ≡ []
 

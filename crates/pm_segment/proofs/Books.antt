@@ -128,6 +128,7 @@ pub record Tallies (base : Base) (at : Moment) (book : List BookEntry) (entry : 
   pub in_time : tick_after (last_tick book) entry ≤ live.mark
   pub marked : live.mark ≤ at.ticks
   pub based : base.count ≤ live.log.count
+  pub acked : history.acked ≤ live.log.count
   pub behind : live.log.since ≡ None → drop (live.log.count - base.count) history.commits ≡ at.staged
   pub each : All (IsFaultBy at.faults) (faults_after (faults_of book) entry)
   pub base_fits : bytes_of_rows base.rows ≤ base.bytes
@@ -156,6 +157,7 @@ gone_push base at live book entry history read legal generation tallies broken k
       base_is = ap (λ (h : History). h.base) is ∙ base_is;
       base_fits = tallies.base_fits;
       based = tallies.based;
+      acked = omega (arith, ap (λ (h : History). h.acked) is, tallies.acked);
       fits = λ unbroken. subst (λ (n : ℕ). live.log.end + 1 + live.needs ≤ base.bytes + 1024 + n) (sym (needs_push book entry)) (fits unbroken);
       limit = limit;
       in_time = subst (λ (n : ℕ). n ≤ live.mark) (sym (tick_push book entry)) tallies.in_time;

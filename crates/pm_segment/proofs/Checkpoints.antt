@@ -131,6 +131,7 @@ checkpoints laws before now live new pid clean moves whole end closed next mark 
           in_time = omega (arith, is.in_time, is.marked, moves.time.later, mark);
           marked = omega (arith, mark);
           based = omega (arith, is.based, moves.count);
+          acked = omega (arith, is.acked, moves.count);
           behind = λ open_log. drop_none (history_of base book) base.count new.log.count (ap (λ (s : Standing). s.count) is.base_is) (all_flushed base before now live new book moves is) ∙ sym moves.unstaged_now;
           each = each_later before.faults now.faults (faults_of book) moves.later is.counted.each;
           base_fits = is.base_fits;
@@ -193,6 +194,7 @@ checkpoint_fails laws before now live new pid since moves broke closed mark faul
           in_time = omega (arith, is.in_time, mark);
           marked = omega (arith, is.marked, moves.time.later, mark);
           based = omega (arith, is.based, moves.count);
+          acked = omega (arith, is.acked, moves.count);
           behind = λ open_log. absurd (some_none since (sym broke ∙ open_log));
           each = each_push before.faults now.faults since (faults_of book) moves.later is.counted.each;
           base_fits = is.base_fits;

@@ -1,6 +1,10 @@
+pub mod Begins
 pub mod Books
 pub mod Checkpoints
+pub mod Early
+pub mod Flushing
 pub mod Lawful
+pub mod Lendings
 pub mod Lengths
 pub mod Opens
 pub mod Passing

@@ -1,5 +1,5 @@
 -- A store that begins.
-use Rattle.std.{specs.{FinMap.{empty, entries}, Prelude.IfSome, Option.option_map}, proofs.{Common.{◌≡◌, inr, ℕ, List, [], ◌∷◌, ◌++◌, Option, None, Some, refl, sym, ◌∙◌, ap, subst, arith, false}, lemmas.List.Elements.{All-nil, All-push}}}
+use Rattle.std.{specs.{FinMap.{empty}, Prelude.IfSome, Option.option_map}, proofs.{Common.{◌≡◌, inr, ℕ, List, [], ◌∷◌, ◌++◌, Option, None, Some, refl, sym, ◌∙◌, ap, subst, arith, false}, lemmas.List.Elements.{All-nil, All-push}}}
 use Rattle.pm_query.{specs.{pm_rows.Fold.RowMap, Limits.HasShortRows, pm_disk.Files.Files, declared.book.BookEntry.{BookEntry, TheVariants.Opened}}, proofs.HistoryLaws.short_rows-empty}
 use Rattle.pm_segment.specs.{Children.times_in, Moment.Moment, Stands.{HasNoTick, HasWaited, IsFaultBy, IsOpening, Origin, WaitsFrom}}
 

@@ -306,6 +306,7 @@ redone_gone origin before now found new book pid redoes told inside waited =
       in_time = omega (arith, waited.no_time);
       marked = omega (arith, redoes.mark);
       based = omega (arith, count);
+      acked = omega (arith, count);
       behind = λ open_log. drop_none (beginning (standing_of base)) base.count new.log.count refl (omega (arith, count)) ∙ sym redoes.unstaged;
       each = each_later before.faults now.faults (faults_of book) redoes.later waited.counted.each;
     })
@@ -434,6 +435,7 @@ redone_later laws base before now found new book pid redoes told inside renewed 
       in_time = omega (arith, renewed.in_time, redoes.time.later, redoes.mark);
       marked = omega (arith, redoes.mark);
       based = omega (arith, count, least, ap (λ (s : Standing). s.count) renewed.base_is);
+      acked = omega (arith, count, acked, is.least);
       behind = λ open_log. drop_none (kept h found.count) base.count new.log.count (ap (λ (s : Standing). s.count) renewed.base_is) (count ∙ sym (cut_count h found.count least is.whole)) ∙ sym redoes.unstaged;
       each = each_later before.faults now.faults (faults_of book) redoes.later renewed.counted.each;
       base_fits = renewed.base_fits;

@@ -118,6 +118,10 @@ rests_with seen now live new rows before behind commit unclosed within rests unb
 pub rests_broken : (new : Live) (rows : RowMap) (staged : List (List Change)) (now : Option Files) (behind : Files → Type 0) (since : ℕ) → new.log.since ≡ Some since → ∥ Rests (Some new) rows staged now behind ∥₁
 rests_broken new rows staged now behind since broke = ∣ (λ whole. absurd (some_none since (sym broke ∙ whole))) ∣₁
 
+-- before its redo it rests on any disk
+pub rests_unread : (o : Option Live) (rows : RowMap) (staged : List (List Change)) (now : Option Files) (behind : Files → Type 0) → o ≡ None → ∥ Rests o rows staged now behind ∥₁
+rests_unread o rows staged now behind none = subst (λ (l : Option Live). ∥ Rests l rows staged now behind ∥₁) (sym none) ∣ tt ∣₁
+
 -- ---- the places of its gates
 
 end_within : (bytes : List ℕ) (content : Content) (end : ℕ) → StandsFor bytes content end → end < length bytes

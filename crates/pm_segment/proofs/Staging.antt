@@ -179,7 +179,7 @@ stages past present_whole at live new book_now rows_now staged_now pid script re
           begun = is.begun;
           attended = attended_still at.inside book entry (λ who n. refl) is.attended;
           base_fits = is.base_fits;
-          may = may_answer base at live book pid script reply commit new.front is (attends_in pid at.book book told inside) reply_is commit_is front (λ closed. absurd (true≢false (sym closed ∙ takes.unclosed)));
+          may = may_answer base at live book pid script reply commit new.front is (attends_in pid at.book book told inside) reply_is commit_is (inl front) (λ closed. absurd (true≢false (sym closed ∙ takes.unclosed)));
           generation = λ n. refl;
           redone = ap (λ (r : Option ℕ). kept_after r entry) is.redone ∙ ap (λ (n : ℕ). Some n) (sym takes.kept);
           closed_is = any_still ends_cleanly (present book) entry live.closed is.closed refl ∙ sym takes.closed;
@@ -187,6 +187,7 @@ stages past present_whole at live new book_now rows_now staged_now pid script re
           in_time = omega (arith, is.in_time, takes.mark);
           marked = omega (arith, is.marked, takes.mark);
           based = omega (arith, is.based, count);
+          acked = omega (arith, is.acked, count);
           behind = λ open_log. behind_added h.commits at.staged commit (new.log.count - base.count) within
               (ap (λ (n : ℕ). drop (n - base.count) h.commits) count ∙ is.behind takes.unbroken) ∙ sym takes.staged;
           each = is.counted.each;
@@ -352,6 +353,7 @@ flushes past present_whole before now live new k writes whole count end needs ma
       base_is = is.base_is;
       base_fits = is.base_fits;
       based = omega (arith, is.based, count);
+      acked = omega (arith, is.acked, count);
       fits = λ open_log. omega (arith, end, needs, need_some (take k before.staged) writes.batch.some, is.fits writes.unbroken);
       limit = writes.limit ∙ is.limit;
       in_time = omega (arith, is.in_time, is.marked, writes.time.later, mark);
@@ -463,6 +465,7 @@ flush_fails past present_whole before now live new k pid since writes broke coun
           in_time = omega (arith, is.in_time, mark);
           marked = omega (arith, is.marked, writes.time.later, mark);
           based = omega (arith, is.based, count);
+          acked = omega (arith, is.acked, count);
           behind = λ open_log. absurd (some_none since (sym broke ∙ open_log));
           each = each_push before.faults now.faults since (faults_of book) writes.later is.counted.each;
           base_fits = is.base_fits;

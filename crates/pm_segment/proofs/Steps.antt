@@ -1,6 +1,6 @@
 -- What each step of a store keeps.
 use Rattle.std.{proofs.{Common.{◌≡◌, ◌≢◌, Bool, true, false, ◌⊎◌, inl, inr, ℕ, ◌+◌, ◌-◌, ◌^◌, ◌<◌, ◌≤◌, List, [], ◌∷◌, ◌++◌, All, drop, Option, None, Some, refl, sym, ◌∙◌, ap, subst, arith, append_assoc, true≢false}, Math.Logic.∥∥₁_map, lemmas.List.{drop_all, Elements.{All-nil, All-push, Contains-append_left}, Sums.{sum_by-append, sum_by-cons}}}, specs.{Prelude.{IfSome, is_some, Any, unwrap_or, cond, nat_eq}, List.list_any, Option.option_map}}
-use Rattle.pm_query.{specs.{pm_disk.{Cause.Rose, Files.Files}, pm_rows.{declared.commit.Change.Change, Fold.{RowMap, committed, folded}, Limits.max_file_bytes, Standing.{Standing, after}}, pm_sql.declared.stmt.Stmt.Stmt, declared.{item.Item.Item, book.BookEntry.{BookEntry, TheVariants.{Attached, Answered, Released, Detached, Broke, LogFull}}}, Answer.{commit_of, items_of}, History.{History, acknowledged, beginning, count_of, number, rows_of, with_commit}, Book.{AnswersUpTo, Base, IsAttached, MayAnswer, MayFollow, TellsFault, ends_checkpoint, ends_cleanly, fault_here, faults_after, faults_here, faults_of, generation_after, generation_of, history_after, history_of, kept_after, kept_by_redo, last_tick, need_after, need_of, needs_of, present, present_after, standing_of, tick_after}, AtTick.is_by, TickLaws.{PastStays, PresentIsWhole}, Durable.{HoldsFrom, Keeps}}, proofs.HistoryLaws.{base-with_commit, generation_push, history_push, redone_push, rows_of-with_commit, times_push, whole_number}}
+use Rattle.pm_query.{specs.{pm_disk.{Cause.Rose, Files.Files}, pm_rows.{declared.commit.Change.Change, Fold.{RowMap, committed, folded}, Limits.max_file_bytes, Standing.{Standing, after}}, pm_sql.declared.stmt.Stmt.Stmt, declared.{item.Item.Item, book.BookEntry.{BookEntry, TheVariants.{Attached, Answered, Released, Detached, Broke, LogFull}}}, Answer.{commit_of, items_of}, History.{History, acknowledged, beginning, count_of, number, rows_of, with_commit}, Book.{AnswersAt, AnswersUpTo, Base, IsAttached, MayAnswer, MayFollow, TellsFault, ends_checkpoint, ends_cleanly, fault_here, faults_after, faults_here, faults_of, generation_after, generation_of, history_after, history_of, kept_after, kept_by_redo, last_tick, need_after, need_of, needs_of, present, present_after, standing_of, tick_after}, AtTick.is_by, TickLaws.{PastStays, PresentIsWhole}, Durable.{HoldsFrom, Keeps}}, proofs.HistoryLaws.{base-with_commit, generation_push, history_push, redone_push, rows_of-with_commit, times_push, whole_number}}
 use Rattle.pm_query.specs.pm_rows.LogSize as log
 use Rattle.pm_record.{proofs.GateLaws.{same_standing, standing}, specs.{Pair.Means, StandsFor.standing_of as content_standing, OnDisk.{GoesOn, Throughout}}}
 use Rattle.pm_segment.{specs.{declared.live.Live.Live, Moment.Moment, Moves.{BreakIsShown, IsCountedFrom, IsShown, IsShownAt, Moves}, Epochs.{BeganIn, IsAheadBy, epochs_in}, MovesLaws.{ahead_still, moves_none, time_still, unread_never, unread_still}, Unread.has_redo, Children.{IsAttendedBy, once, times_behind, times_in}, Fronts.{flushed_of, whole_of}, Passes.IsUpTo, Rests.{Rests, RestsAt}, Stands.{Begins, GoesFrom, HasBegun, HasGone, HasHeld, HasNoTick, HasRenewed, HasWaited, IsAnchored, IsFaultBy, IsOpening, IsSure, MeansWithin, Origin, TellsBreak, WaitsFrom, most_bytes}}, proofs.{Books.{IsNotGone, any_still, attended_push, attended_still, breaks_push, closed_push, count-with_commit, each_later, each_push, faults_push, gone_push, here_push, legal_push, most_grows, needs_push, renewed_push, tells_new, tick_push, waited_push}, Runs.{another, answered, covers_commit, covers_number, goes_by, holds_in, holds_so, later, next_commit, released}}}
@@ -292,6 +292,7 @@ gone_quiet base at live book_now inside_now book entry quiet may attended is =
       in_time = subst (λ (n : ℕ). n ≤ live.mark) (sym (quiet.tick (last_tick book))) is.in_time;
       marked = is.marked;
       based = is.based;
+      acked = is.acked;
       behind = is.behind;
       each = subst (All (IsFaultBy at.faults)) (sym (quiet.faults (faults_of book))) is.counted.each;
       base_fits = is.base_fits;
@@ -503,6 +504,7 @@ releases past present_whole at live book_now pid front read flushed inside answe
       in_time = omega (arith, is.in_time);
       marked = is.marked;
       based = is.based;
+      acked = omega (arith, is.acked, flushed);
       behind = is.behind;
       each = is.counted.each;
     })
@@ -515,7 +517,7 @@ releases past present_whole at live book_now pid front read flushed inside answe
 
 -- an answer that may follow
 pub may_answer : (base : Base) (at : Moment) (live : Live) (book : List BookEntry) (pid : ℕ) (script : List Stmt) (reply : List Item) (commit : List Change) (front : ℕ)
-    → HasGone base at live book → IsAttached book pid → reply ≡ items_of at.rows script → commit ≡ commit_of at.rows script → front ≡ count_of (with_commit (history_of base book) commit)
+    → HasGone base at live book → IsAttached book pid → reply ≡ items_of at.rows script → commit ≡ commit_of at.rows script → AnswersAt (history_of base book) script reply commit front
     → (live.closed ≡ true → commit ≡ []) → MayAnswer base book pid script reply commit front live.mark
 may_answer base at live book pid script reply commit front is attached reply_is commit_is front_is unclosed = record {
   redone = ap is_some is.redone;
@@ -535,12 +537,13 @@ flushed_number origin base at book commit held live read =
     sym (covers_number (with_commit h commit) h (covers_commit h commit) live.log.count (keeps_by origin base at live book read held).whole)
 
 -- a script without changes is answered
-pub reads : PastStays → PresentIsWhole → (at : Moment) (live : Live) (book_now : Option (List BookEntry)) (pid : ℕ) (script : List Stmt) (reply : List Item) (commit : List Change)
-    → at.live ≡ Some live → live.log.since ≡ None → Attends pid at.book → reply ≡ items_of at.rows script → commit ≡ commit_of at.rows script → commit ≡ []
-    → Added (Answered pid script reply commit live.front live.mark ∷ []) at.book book_now → Moves (Answered pid script reply commit live.front live.mark ∷ []) at (with_book book_now at)
-reads past present_whole at live book_now pid script reply commit read unbroken inside reply_is commit_is nothing notes =
-    let entry : BookEntry = Answered pid script reply commit live.front live.mark in
-    let bare : BookEntry = Answered pid script reply [] live.front live.mark in
+pub reads : PastStays → PresentIsWhole → (at : Moment) (live : Live) (book_now : Option (List BookEntry)) (pid : ℕ) (script : List Stmt) (reply : List Item) (commit : List Change) (front : ℕ)
+    → at.live ≡ Some live → Attends pid at.book → reply ≡ items_of at.rows script → commit ≡ commit_of at.rows script → commit ≡ []
+    → ((base : Base) (book : List BookEntry) → HasGone base at live book → AnswersAt (history_of base book) script reply [] front)
+    → Added (Answered pid script reply commit front live.mark ∷ []) at.book book_now → Moves (Answered pid script reply commit front live.mark ∷ []) at (with_book book_now at)
+reads past present_whole at live book_now pid script reply commit front read inside reply_is commit_is nothing answers notes =
+    let entry : BookEntry = Answered pid script reply commit front live.mark in
+    let bare : BookEntry = Answered pid script reply [] front live.mark in
     still (entry ∷ []) at live book_now read notes (λ who n. refl) (λ from counted. no_fault_shown from at.faults entry tt) refl
     (λ base book told is.
     let done : HasGone base (with_book book_now at) live (book ++ bare ∷ []) =
@@ -550,7 +553,7 @@ reads past present_whole at live book_now pid script reply commit read unbroken 
       begun = is.begun;
       attended = attended_still at.inside book bare (λ who n. refl) is.attended;
       base_fits = is.base_fits;
-      may = may_answer base at live book pid script reply [] live.front is (attends_in pid at.book book told inside) reply_is (sym nothing ∙ commit_is) (is.count_is unbroken) (λ closed. refl);
+      may = may_answer base at live book pid script reply [] front is (attends_in pid at.book book told inside) reply_is (sym nothing ∙ commit_is) (answers base book is) (λ closed. refl);
       generation = λ n. refl;
       redone = ap (λ (r : Option ℕ). kept_after r bare) is.redone;
       closed_is = any_still ends_cleanly (present book) bare live.closed is.closed refl;
@@ -558,16 +561,17 @@ reads past present_whole at live book_now pid script reply commit read unbroken 
       in_time = omega (arith, is.in_time);
       marked = is.marked;
       based = is.based;
+      acked = is.acked;
       behind = is.behind;
       each = is.counted.each;
     })
     (breaks_still live.log.since live.faults (faults_here book) bare (λ fs. refl) is.broken) is.known is.rows_are is.count_is is.base_is
     (λ open_log. omega (arith, is.fits open_log)) is.limit is.counted.later in
-    subst (λ (k : List Change). HasGone base (with_book book_now at) live (book ++ Answered pid script reply k live.front live.mark ∷ [])) (sym nothing) done)
+    subst (λ (k : List Change). HasGone base (with_book book_now at) live (book ++ Answered pid script reply k front live.mark ∷ [])) (sym nothing) done)
     (λ origin base book is held.
     let h = history_of base book in
     held_on origin base at (with_book book_now at) live book (book ++ entry ∷ []) read (time_still at.ticks at.images) held
-    (answered past present_whole base book held.start live.mark at.ticks live.log.count at.images (keeps_by origin base at live book read held) pid live.front script reply commit)
+    (answered past present_whole base book held.start live.mark at.ticks live.log.count at.images (keeps_by origin base at live book read held) pid front script reply commit)
     (λ image there. lengths_push base book entry (with_commit h commit) live.log.count image refl
     (holds_in (MeansWithin (most_bytes base book)) (with_commit h commit) h live.log.count live.log.count image (covers_commit h commit) (omega arith) (lengths_by origin base at live book read held image there)))
     (subst (IsAnchored (with_book book_now at)) (sym (history_push base book entry))
@@ -789,7 +793,7 @@ commits past present_whole before now live new pid script reply (change ∷ chan
           begun = subst (λ (n : ℕ). 1 ≤ n) (sym appends.generation) is.begun;
           attended = subst (λ (l : List ℕ). IsAttendedBy l (book ++ entry ∷ [])) (sym appends.inside) (attended_still before.inside book entry (λ who n. refl) is.attended);
           base_fits = is.base_fits;
-          may = may_answer base before live book pid script reply commit new.log.count is (attends_in pid before.book book told inside) reply_is commit_is all (λ closed. absurd (true≢false (sym closed ∙ appends.unclosed)));
+          may = may_answer base before live book pid script reply commit new.log.count is (attends_in pid before.book book told inside) reply_is commit_is (inl all) (λ closed. absurd (true≢false (sym closed ∙ appends.unclosed)));
           generation = λ n. refl;
           redone = ap (λ (r : Option ℕ). kept_after r entry) is.redone ∙ ap (λ (n : ℕ). Some n) (sym appends.kept);
           closed_is = any_still ends_cleanly (present book) entry live.closed is.closed refl ∙ sym appends.closed;
@@ -797,6 +801,7 @@ commits past present_whole before now live new pid script reply (change ∷ chan
           in_time = omega (arith, is.in_time, is.marked, appends.time.later, mark);
           marked = omega (arith, mark);
           based = omega (arith, is.based, count);
+          acked = omega (arith, is.acked, count);
           behind = λ open_log. drop_none (with_commit h commit) base.count new.log.count (ap (λ (s : Standing). s.count) (base-with_commit h commit ∙ is.base_is)) all ∙ sym appends.unstaged_now;
           each = each_later before.faults now.faults (faults_of book) appends.later is.counted.each;
         })
@@ -876,7 +881,7 @@ loses past present_whole before now live new pid since script reply (change ∷ 
         let commit = change ∷ changes in
         let answered = book ++ first ∷ [] in
         let front_is : live.front + 1 ≡ count_of (with_commit h commit) = omega (arith, is.count_is appends.unbroken, count-with_commit h change changes) in
-        let may = may_answer base before live book pid script reply commit (live.front + 1) is (attends_in pid before.book book told inside) reply_is commit_is front_is (λ closed. absurd (true≢false (sym closed ∙ appends.unclosed))) in
+        let may = may_answer base before live book pid script reply commit (live.front + 1) is (attends_in pid before.book book told inside) reply_is commit_is (inl front_is) (λ closed. absurd (true≢false (sym closed ∙ appends.unclosed))) in
         let grown : history_of base answered ≡ with_commit h commit = history_push base book first in
         let redone : kept_by_redo answered ≡ Some live.kept = redone_answered base book is in
         let here : faults_here answered ≡ Some [] = here_push book first ∙ ap (λ (f : Option (List (ℕ × ℕ))). fault_here f first) (none_told live.log.since live.faults (faults_here book) appends.unbroken is.broken) in
@@ -900,6 +905,7 @@ loses past present_whole before now live new pid since script reply (change ∷ 
           in_time = subst (λ (n : ℕ). n ≤ new.mark) (sym (tick_push book first)) (omega (arith, is.in_time, mark));
           marked = omega (arith, is.marked, appends.time.later, mark);
           based = omega (arith, is.based, count);
+          acked = omega (arith, is.acked, count);
           behind = λ open_log. absurd (some_none since (sym broke ∙ open_log));
           each = subst (λ (fs : List (ℕ × ℕ)). All (IsFaultBy now.faults) (fs ++ (since, now.faults) ∷ [])) (sym faults) (each_push before.faults now.faults since (faults_of book) appends.later is.counted.each);
         })
@@ -957,6 +963,7 @@ finds_broken past present_whole at live book_now pid since read broke inside not
       in_time = is.in_time;
       marked = is.marked;
       based = is.based;
+      acked = is.acked;
       behind = is.behind;
       each = All-push (IsFaultBy at.faults) (faults_of book) (since, live.faults) is.counted.each (is.known since broke);
     })

@@ -1,5 +1,5 @@
 -- What a flush comes to.
-use Rattle.std.specs.Prelude.{◌≡◌, ◌≢◌, ℕ, ◌+◌, List, [], length, take, drop, None, Some, Result, Ok, Err}
+use Rattle.std.specs.Prelude.{◌≡◌, ◌≢◌, ℕ, ◌+◌, ◌≤◌, List, [], length, take, drop, Option, None, Some, Result, Ok, Err}
 use Rattle.pm_query.specs.{pm_rows.{declared.commit.Change.Change, Limits.max_commits}, Calls.NotesFault, declared.{book.BookEntry.BookEntry, store.{Checkpointed.{Checkpointed, TheVariants.Done}, StoreNo.{StoreNo, TheVariants.{Broken, Disk, NoMemory}}}}}
 use Rattle.pm_segment.specs.{Causes.IsUnbroken, Fronts.flushed_of, Moment.Moment, Redos.IsBroken, declared.live.Live.Live}
 
@@ -34,19 +34,24 @@ WritesNothing staged (Ok done) = staged ≡ []
 WritesNothing staged (Err Disk) = ⊥
 WritesNothing staged (Err _) = Unit {0}
 
--- ---- a batch
+-- ---- several batches
 
--- one, or several of them, come to the log after them, or to a fault of the disk, or to want of memory
-abbrev pub BatchNotes : ℕ → Result Live StoreNo → List BookEntry → Type 0
-BatchNotes pid (Ok new) entries = entries ≡ []
-BatchNotes pid (Err Disk) entries = NotesFault pid entries
-BatchNotes pid (Err NoMemory) entries = entries ≡ []
-BatchNotes pid (Err _) entries = ⊥
+-- The log goes on where it went on before, behind the same base and no less far.
+pub record IsLonger (before now : Option Live) : Type 0 where
+  pub its : Live
+  pub new : Live
+  pub read : before ≡ Some its
+  pub read_now : now ≡ Some new
+  pub unbroken : new.log.since ≡ None
+  pub base_end : new.log.base_end ≡ its.log.base_end
+  pub longer : its.log.end ≤ new.log.end
 
-abbrev pub BatchCause : (before now : Moment) → Live → Result Live StoreNo → Type 0
-BatchCause before now its (Ok new) = HasWritten before now its new
-BatchCause before now its (Err Disk) = before.staged ≢ []
-BatchCause before now its (Err _) = Unit {0}
+-- several batches come to that, to a fault of the disk, or to want of memory
+abbrev pub WriteNotes : {T : Type 0} → ℕ → Result T StoreNo → List BookEntry → Type 0
+WriteNotes pid (Ok done) entries = entries ≡ []
+WriteNotes pid (Err Disk) entries = NotesFault pid entries
+WriteNotes pid (Err NoMemory) entries = entries ≡ []
+WriteNotes pid (Err _) entries = ⊥
 
 -- ---- a checkpoint
 

@@ -2,7 +2,7 @@
 use Rattle.std.specs.Prelude.{◌≡◌, ℕ, ◌≤◌, true, List, [], length, take, Option, Some, None, IfSome}
 use Rattle.pm_record.specs.{pm_disk.Files.Files, pm_rows.{declared.commit.Change.Change, Fold.{RowMap, folded}, Limits.IsWithinRowLimits, Standing.Standing}, StandsFor.{Content, standing_of}}
 use Rattle.pm_log.specs.Log.{Lives}
-use Rattle.pm_segment.specs.declared.live.Live.{Live}
+use Rattle.pm_segment.specs.declared.{apart.Apart.Apart, live.Live.Live}
 
 -- a clean base, and nothing after it
 pub record IsClean (content : Content) : Type 0 where
@@ -22,6 +22,10 @@ pub record HasRows (live : Live) (rows : RowMap) (staged : List (List Change)) (
 abbrev pub Rests : Option Live → RowMap → List (List Change) → Option Files → (Files → Type 0) → Type 0
 Rests None rows staged seen images = Unit {0}
 Rests (Some live) rows staged seen images = live.log.since ≡ None → IfSome seen (λ files. HasRows live rows staged files images)
+
+-- so it is of a store with this disk
+abbrev pub IsAtRest : {D B : Type 0} {g h : _} → D → Apart D B g h → Type 0
+IsAtRest {g = g} disk apart = ∥ Rests apart.live apart.rows apart.stage.commits (g.seen disk) (g.images disk (g.ticks disk)) ∥₁
 
 -- and the content is this standing
 pub record RestsAt (live : Live) (rows : RowMap) (staged : List (List Change)) (files : Files) (images : Files → Type 0) (standing : Standing) : Type 0 where

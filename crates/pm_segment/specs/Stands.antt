@@ -66,7 +66,7 @@ abbrev pub most_bytes : Base → List BookEntry → ℕ
 most_bytes base book = base.bytes + 1024 + needs_of book
 
 -- The book is legal from its base, and rows and log are its replay: the rows with all of its commits, the log with those up
--- to the flushed number, and those after that are staged.
+-- to the flushed number, and those after that are staged. No more are acknowledged than are flushed.
 pub record HasGone (base : Base) (at : Moment) (live : Live) (book : List BookEntry) : Type 0 where
   pub read : at.live ≡ Some live
   pub legal : IsLegal base book
@@ -83,6 +83,7 @@ pub record HasGone (base : Base) (at : Moment) (live : Live) (book : List BookEn
   pub base_is : (history_of base book).base ≡ standing_of base
   pub base_fits : bytes_of_rows base.rows ≤ base.bytes
   pub based : base.count ≤ flushed_of live
+  pub acked : (history_of base book).acked ≤ flushed_of live
   pub fits : live.log.since ≡ None → live.log.end + 1 + live.needs ≤ most_bytes base book
   pub limit : live.log.limit ≡ max_file_bytes
   pub in_time : last_tick book ≤ live.mark

@@ -4,159 +4,132 @@ ghost use Rattle.std.specs.Prelude.{◌≡◌, ◌≢◌, ◌+◌, ◌≤◌, []
 ghost use Rattle.pm_query.specs.{declared.{book.BookEntry.TheVariants.{Answered, Broke, LogFull}, store.StoreNo.StoreNo}, Calls.NotesStaged};
 ghost use Rattle.pm_outside.specs.Added.{Added};
 
+use crate::apart::Apart;
 use crate::commits::Commits;
+use crate::front::read_front;
 use crate::live::Live;
 use crate::pass::Pass;
 use crate::ran::Ran;
-use crate::segment::{Segment, history_laws};
+use crate::segment::history_laws;
 use pm_disk::Disk;
-use pm_log::LogFault;
 use pm_outside::Chronicle;
 use pm_query::{BookEntry, Reply, Staged, StoreNo};
 use pm_record::body_length;
-use pm_stage::Stage;
+use pm_sql::Script;
 use std::slice;
 
-impl<D: Disk, B: Chronicle<BookEntry>> Segment<D, B> {
-    ghost use Rattle.std.specs.Prelude.{◌<◌, ◌-◌, ◌^◌, List, None, Err, IfOk, OnErr, false};
-    ghost use Rattle.pm_query.specs.{declared.book.BookEntry.BookEntry, Calls.{with_front, RunNotes, ReachesNoLess}};
-    ghost use Rattle.pm_segment.specs.{Answers.IsAnswerOn, Causes.{MakesNoCall, RunCause, staged_behind}, Moment.{HasLogOf, disk_of, moment}, Moves.Moves, Passes.{Admits, user_in, view_of}};
+/// What a script comes to, before the log is asked to take its commit.
+#[derive(Drop)]
+pub(crate) enum Begun {
+    /// It was answered, and commits nothing.
+    Answered(Staged),
+    /// It has a commit, which this log may take.
+    Commits(Live, Ran),
+}
 
-    // Answers a script that commits nothing.
-    pub(crate) fn read(&mut self, pass: &mut Pass, live: Live, ran: Ran) -> Staged
-        requires admits { Admits pass.old (moment self.old) }
-        requires room { length self.old.inside + 1 ≤ B.spare self.old.book }
-        requires live { self.old.live ≡ Some live }
-        requires unbroken { live.log.since ≡ None }
-        requires answer { IsAnswerOn self.old.rows ran }
-        requires nothing { ran.commit ≡ [] }
-        ensures notes { (entries : List BookEntry)
-            × Moves entries (moment self.old) (moment self.new)
-            × NotesStaged pass.old.pid ran.script result entries }
-        ensures admits { Admits pass.new (moment self.new) }
-        ensures reply { result.reply ≡ ran.reply }
-        ensures fresh { ReachesNoLess (view_of pass.old) result.front }
-        ensures view { view_of pass.new ≡ with_front result.front (view_of pass.old) }
-        ensures rest { HasLogOf self.old self.new }
+impl<D: Disk, B: Chronicle<BookEntry>> Apart<D, B> {
+    ghost use Rattle.std.specs.Prelude.{◌^◌, ◌-◌, List, None, Err, cond};
+    ghost use Rattle.pm_query.specs.{declared.book.BookEntry.BookEntry, Calls.{MetLater, ReachesNoLess, RunNotes, with_front}};
+    ghost use Rattle.pm_segment.specs.{Answers.IsAnswerOn, Apart.Grows, Begun.{HasBegun, HasRun}, Causes.RunCause, Moment.{KeepsLog, alone}, declared.commits.Commits.Commits, Passes.{Admits, user_in, view_of}, ReadsApart.AnswersEarly};
+
+    /// Runs a script, and stages its commit.
+    pub fn run(&mut self, pass: &mut Pass, script: &Script) -> Result<Staged, StoreNo>
+        requires { Admits pass.old (alone self.old) }
+        ensures run { HasRun Commits.Staged self.old self.new pass.old pass.new script.now result }
+        ensures admits { Admits pass.new (alone self.new) }
+        ensures stale { MetLater (alone self.new).generation pass.old.generation result }
     {
-        history_laws();
-        answer(&mut self.book, pass, ran, live.front, live.mark)
+        let begun = self.begin(pass, script, Commits::Staged)?;
+        match begun {
+            Begun::Answered(staged) => Ok(staged),
+            Begun::Commits(_, _) => unreachable!(),
+        }
     }
 
-    // Takes the commit of a script, and answers. After a clean checkpoint, and after the last number, it is refused.
-    pub(crate) fn write(&mut self, pass: &mut Pass, live: Live, ran: Ran) -> Result<Staged, StoreNo>
-        requires admits { Admits pass.old (moment self.old) }
-        requires room { length self.old.inside + 2 ≤ B.spare self.old.book }
-        requires live { self.old.live ≡ Some live }
-        requires unbroken { live.log.since ≡ None }
-        requires answer { IsAnswerOn self.old.rows ran }
-        requires some { ran.commit ≢ [] }
-        ensures notes { (entries : List BookEntry)
-            × Moves entries (moment self.old) (moment self.new)
-            × RunNotes (user_in (moment self.old) pass.old) ran.script result entries }
-        ensures admits { Admits pass.new (moment self.new) }
-        ensures reply { IfOk result (λ staged. staged.reply ≡ ran.reply) }
-        ensures fresh { IfOk result (λ staged. ReachesNoLess (view_of pass.old) staged.front) }
-        ensures view { IfOk result (λ staged. view_of pass.new ≡ with_front staged.front
-            (view_of pass.old)) }
-        ensures refused { OnErr result (view_of pass.new ≡ view_of pass.old) }
-        ensures cause { RunCause (moment self.old) ran.script result }
-        ensures rest { MakesNoCall self.old.rows ran.script result → HasLogOf self.old self.new }
-        ensures still { self.old.commits ≡ Commits.Staged → disk_of self.new ≡ disk_of self.old }
-        ensures staged { (moment self.new).staged
-            ≡ staged_behind (moment self.old) ran.script result }
+    // Runs a script, and answers it, but for a commit that is to be written at once. After a clean checkpoint, and after the last
+    // number, a commit is refused.
+    pub(crate) fn begin(
+        &mut self,
+        pass: &mut Pass,
+        script: &Script,
+        ways: Commits,
+    ) -> Result<Begun, StoreNo>
+        requires { Admits pass.old (alone self.old) }
+        ensures begun { HasBegun ways self.old self.new pass.old pass.new script.now result }
+        ensures admits { Admits pass.new (alone self.new) }
+        ensures stale { MetLater (alone self.new).generation pass.old.generation result }
     {
+        let Some(live) = self.live else {
+            return Err(StoreNo::NoMemory);
+        };
+        let room = self.entries_for(2);
+        if self.book.reserve(room).is_err() {
+            return Err(StoreNo::NoMemory);
+        }
+        if let Some(since) = live.log.since {
+            return Err(self.broken(*pass, live, since));
+        }
+        let Ok(ran) = Ran::of(self.alloc, &self.rows, script) else {
+            return Err(StoreNo::NoMemory);
+        };
+        if ran.commit.changes().is_empty() {
+            return Ok(Begun::Answered(self.read(pass, live, ran)));
+        }
         if live.closed {
             return Err(StoreNo::NoMemory);
         }
         if live.front == u64::MAX {
             return Err(self.refuse_spent(*pass, live, ran));
         }
-        match self.commits {
-            Commits::AtOnce => self.append(pass, live, ran),
-            Commits::Staged => self.stage(pass, live, ran),
+        match ways {
+            Commits::AtOnce => Ok(Begun::Commits(live, ran)),
+            Commits::Staged => match self.stage(pass, live, ran) {
+                Ok(staged) => Ok(Begun::Answered(staged)),
+                Err(refusal) => Err(refusal),
+            },
         }
+    }
+
+    // Answers a script that commits nothing. One that shows nothing of what is staged is answered at the flushed number.
+    fn read(&mut self, pass: &mut Pass, live: Live, ran: Ran) -> Staged
+        requires admits { Admits pass.old (alone self.old) }
+        requires room { length self.old.inside + cond self.old.lent 1 0 + 1 ≤ B.spare self.old.book }
+        requires live { self.old.live ≡ Some live }
+        requires unbroken { live.log.since ≡ None }
+        requires answer { IsAnswerOn self.old.rows ran }
+        requires nothing { ran.commit ≡ [] }
+        ensures notes { (entries : List BookEntry) × Grows entries self.old self.new
+            × NotesStaged pass.old.pid ran.script result entries }
+        ensures admits { Admits pass.new (alone self.new) }
+        ensures reply { result.reply ≡ ran.reply }
+        ensures fresh { ReachesNoLess (view_of pass.old) result.front }
+        ensures view { view_of pass.new ≡ with_front result.front (view_of pass.old) }
+        ensures early { AnswersEarly (alone self.old) pass.old.front ran.script result.front }
+        ensures rest { KeepsLog self.old self.new }
+    {
+        history_laws();
+        let front = read_front(&self.stage, pass, live, &ran.script);
+        answer(&mut self.book, pass, ran, front, live.mark)
     }
 
     // Refuses a commit after the last number.
     fn refuse_spent(&mut self, pass: Pass, live: Live, ran: Ran) -> StoreNo
-        requires admits { Admits pass (moment self.old) }
-        requires room { length self.old.inside + 2 ≤ B.spare self.old.book }
+        requires admits { Admits pass (alone self.old) }
+        requires room { length self.old.inside + cond self.old.lent 1 0 + 2 ≤ B.spare self.old.book }
         requires live { self.old.live ≡ Some live }
         requires unbroken { live.log.since ≡ None }
         requires answer { IsAnswerOn self.old.rows ran }
         requires some { ran.commit ≢ [] }
         requires spent { live.front ≡ 2 ^ 64 - 1 }
-        ensures notes { (entries : List BookEntry)
-            × Moves entries (moment self.old) (moment self.new)
-            × RunNotes (user_in (moment self.old) pass) ran.script (Err result) entries }
-        ensures admits { Admits pass (moment self.new) }
-        ensures cause { RunCause (moment self.old) ran.script (Err result) }
-        ensures rest { HasLogOf self.old self.new }
+        ensures notes { (entries : List BookEntry) × Grows entries self.old self.new
+            × RunNotes (user_in (alone self.old) pass) ran.script (Err result) entries }
+        ensures admits { Admits pass (alone self.new) }
+        ensures cause { RunCause (alone self.old) ran.script (Err result) }
+        ensures rest { KeepsLog self.old self.new }
     {
         history_laws();
         let need = 5 + body_length(slice::from_ref(&ran.commit));
         note_full(&mut self.book, pass.pid, ran, need, 0)
-    }
-
-    // Appends a commit to the log, and answers. The commit is noted where it may stand.
-    fn append(&mut self, pass: &mut Pass, live: Live, ran: Ran) -> Result<Staged, StoreNo>
-        requires admits { Admits pass.old (moment self.old) }
-        requires room { length self.old.inside + 2 ≤ B.spare self.old.book }
-        requires live { self.old.live ≡ Some live }
-        requires unbroken { live.log.since ≡ None }
-        requires answer { IsAnswerOn self.old.rows ran }
-        requires some { ran.commit ≢ [] }
-        requires unclosed { live.closed ≡ false }
-        requires number { live.front + 1 < 2 ^ 64 }
-        requires at_once { self.old.commits ≡ Commits.AtOnce }
-        ensures notes { (entries : List BookEntry)
-            × Moves entries (moment self.old) (moment self.new)
-            × RunNotes (user_in (moment self.old) pass.old) ran.script result entries }
-        ensures admits { Admits pass.new (moment self.new) }
-        ensures reply { IfOk result (λ staged. staged.reply ≡ ran.reply) }
-        ensures fresh { IfOk result (λ staged. ReachesNoLess (view_of pass.old) staged.front) }
-        ensures view { IfOk result (λ staged. view_of pass.new ≡ with_front staged.front
-            (view_of pass.old)) }
-        ensures refused { OnErr result (view_of pass.new ≡ view_of pass.old) }
-        ensures cause { RunCause (moment self.old) ran.script result }
-        ensures rest { MakesNoCall self.old.rows ran.script result → HasLogOf self.old self.new }
-        ensures staged { (moment self.new).staged ≡ [] }
-    {
-        history_laws();
-        let _typed = ran.commit.changes();
-        let prepared = self.rows.prepare(&ran.commit)?;
-        let tick = live.mark;
-        let mut grown = live;
-        match grown
-            .log
-            .append(self.alloc, &mut self.disk, slice::from_ref(&ran.commit))
-        {
-            Ok(receipt) => {
-                grown.front = receipt.count;
-                grown.mark = receipt.tick;
-                self.rows = prepared.apply();
-                self.live = Some(grown);
-                self.stage = Stage::new(self.alloc, receipt.count);
-                Ok(answer(&mut self.book, pass, ran, receipt.count, tick))
-            }
-            Err(LogFault::Disk) => {
-                grown.faults = self.disk.faults();
-                self.rows = prepared.apply();
-                self.live = Some(grown);
-                note_answer(&mut self.book, pass.pid, ran, live.front + 1, tick);
-                note_fault(&mut self.book, pass.pid, &self.disk);
-                Err(StoreNo::Disk)
-            }
-            Err(LogFault::Full { need, room }) => {
-                self.rows = prepared.cancel();
-                Err(note_full(&mut self.book, pass.pid, ran, need, room))
-            }
-            Err(LogFault::Broken { since: _ } | LogFault::NoMemory) => {
-                self.rows = prepared.cancel();
-                Err(StoreNo::NoMemory)
-            }
-        }
     }
 }
 
@@ -189,7 +162,7 @@ pub(crate) fn answer<B: Chronicle<BookEntry>>(
 }
 
 // Notes an answer, and hands its reply back.
-fn note_answer<B: Chronicle<BookEntry>>(
+pub(crate) fn note_answer<B: Chronicle<BookEntry>>(
     book: &mut B,
     pid: u32,
     ran: Ran,

@@ -1,116 +1,212 @@
-//! Writing what is staged.
+//! A flush in three parts, and as one call.
+//!
+//! The disk is lent with a copy of the oldest batch; the batch is written, without the store; what that came to is marked. Between the
+//! parts others may use the store. All memory is taken before the disk is lent.
 
+ghost use Rattle.std.specs.Prelude.{◌≡◌, IfOk};
+
+use crate::apart::Apart;
+use crate::batch::{Batch, Lending, Written};
 use crate::commit::note_fault;
 use crate::live::Live;
 use crate::pass::Pass;
-use crate::segment::{Segment, history_laws};
+use crate::segment::history_laws;
 use pm_disk::Disk;
-use pm_log::LogFault;
 use pm_outside::Chronicle;
 use pm_query::{BookEntry, Checkpointed, StoreNo};
+use pm_rows::Commit;
+use std::alloc::{AllocError, Global};
 
 /// How many bytes a commit of its own needs beside those that it needs in a batch after others.
 const ALONE: u64 = 9;
 
-impl<D: Disk, B: Chronicle<BookEntry>> Segment<D, B> {
-    ghost use Rattle.std.specs.Prelude.{◌≡◌, ◌⊎◌, ◌+◌, ◌-◌, ◌≤◌, [], length, List, Some, None, IfOk, OnOk, true};
-    ghost use Rattle.pm_query.specs.{declared.book.BookEntry.BookEntry, Calls.{CheckpointNotes, due_bytes}};
-    ghost use Rattle.pm_segment.specs.{Flushes.{BatchCause, BatchNotes, FlushesAll, WritesNothing}, Moment.{HasDiskOf, HasLogOf, moment}, Moves.Moves, Passes.{Admits, user_in}, Redos.{CheckpointCause, FullAtLast, MadeAfresh, MakesCalls}};
+impl<D: Disk, B: Chronicle<BookEntry>> Apart<D, B> {
+    ghost use Rattle.std.specs.Prelude.{◌≡◌, List};
+    ghost use Rattle.pm_query.specs.{declared.book.BookEntry.BookEntry, Calls.FlushNotes};
+    ghost use Rattle.pm_segment.specs.{Apart.MovesOn, Lending.{IsHome, IsUnder, LendsOrAnswers, Marks, Wrote}, Moment.alone, Passes.{Admits, user_in}, Rests.IsAtRest};
 
-    // Appends the oldest of what is staged, as one batch, and answers the log after it.
-    pub(crate) fn write_batch(&mut self, pass: &Pass, live: Live) -> Result<Live, StoreNo>
-        requires admits { Admits pass.now (moment self.old) }
-        requires room { length self.old.inside + 1 ≤ B.spare self.old.book }
-        requires read { self.old.live ≡ Some live }
-        requires unbroken { live.log.since ≡ None }
-        ensures notes { (entries : List BookEntry)
-            × Moves entries (moment self.old) (moment self.new)
-            × BatchNotes pass.now.pid result entries }
-        ensures admits { Admits pass.now (moment self.new) }
-        ensures room { OnOk result (length self.new.inside + 1 ≤ B.spare self.new.book) }
-        ensures cause { BatchCause (moment self.old) (moment self.new) live result }
-        ensures longer { IfOk result (λ new. (new.log.base_end ≡ live.log.base_end)
-            × (live.log.end ≤ new.log.end)) }
-        ensures rest { WritesNothing (moment self.old).staged result → HasLogOf self.old self.new }
+    /// Lends the disk with a copy of the oldest batch, or answers a flush that needs none: the log isn't read, it is broken,
+    /// nothing is staged, or memory is short.
+    pub fn lend(&mut self, pass: &Pass) -> Lending
+        requires admits { Admits pass.now (alone self.old) }
+        requires home { IsHome self.old }
+        ensures lends { LendsOrAnswers (user_in (alone self.old) pass.now) self.old self.new
+            result }
+        ensures admits { Admits pass.now (alone self.new) }
+    {
+        let room = self.entries_for(1);
+        if self.book.reserve(room).is_err() {
+            return Lending::Answered(Err(StoreNo::NoMemory));
+        }
+        let Some(live) = self.live else {
+            return Lending::Answered(Err(StoreNo::NoMemory));
+        };
+        if let Some(since) = live.log.since {
+            let refusal = self.broken(*pass, live, since);
+            return Lending::Answered(Err(refusal));
+        }
+        if self.stage.batch().is_empty() {
+            return Lending::Answered(Ok(live.log.count));
+        }
+        let Ok(commits) = copied(self.alloc, self.stage.batch()) else {
+            return Lending::Answered(Err(StoreNo::NoMemory));
+        };
+        self.lent = true;
+        Lending::Lent(Batch {
+            log: live.log,
+            commits,
+            alloc: self.alloc,
+        })
+    }
+
+    /// Marks what the writing of the batch came to, with the disk that comes back: the disk is lent no longer. It takes no memory.
+    pub fn mark(
+        &mut self,
+        pass: &Pass,
+        batch: Batch,
+        disk: &D,
+        written: Written,
+    ) -> Result<u64, StoreNo>
+        requires admits { Admits pass.now (alone self.old) }
+        requires under { IsUnder batch self.old }
+        requires wrote { (taken : D) × Wrote D.Disk taken disk.now batch written }
+        ensures notes { (taken : D) → IsAtRest taken self.old
+            → Wrote D.Disk taken disk.now batch written → (entries : List BookEntry)
+            × MovesOn entries taken self.old disk.now self.new
+            × FlushNotes (user_in (alone self.old) pass.now) result entries }
+        ensures rests { (taken : D) → IsAtRest taken self.old
+            → Wrote D.Disk taken disk.now batch written → IsAtRest disk.now self.new }
+        ensures admits { Admits pass.now (alone self.new) }
+        ensures home { IsHome self.new }
+        ensures marks { Marks batch written self.old self.new result }
     {
         history_laws();
-        if self.stage.batch().is_empty() {
-            return Ok(live);
-        }
-        let mut grown = live;
-        match grown
-            .log
-            .append(self.alloc, &mut self.disk, self.stage.batch())
-        {
-            Ok(receipt) => {
-                let gates = ALONE * (self.stage.batch().len() as u64 - 1);
-                grown.needs -= grown.log.end - live.log.end + gates;
-                grown.mark = receipt.tick;
-                self.stage.flushed(receipt.count);
-                self.live = Some(grown);
-                Ok(grown)
+        let _oldest = self.stage.batch();
+        let Some(mut live) = self.live else {
+            unreachable!()
+        };
+        self.lent = false;
+        match written {
+            Written::Durable { log, tick } => {
+                let gates = ALONE * (batch.commits.len() as u64 - 1);
+                live.needs -= log.end - live.log.end + gates;
+                live.log = log;
+                live.mark = tick;
+                self.stage.flushed(log.count);
+                self.live = Some(live);
+                Ok(log.count)
             }
-            Err(LogFault::Disk) => {
-                grown.faults = self.disk.faults();
-                self.live = Some(grown);
-                note_fault(&mut self.book, pass.pid, &self.disk);
+            Written::Failed { log } => {
+                live.log = log;
+                live.faults = disk.faults();
+                self.live = Some(live);
+                note_fault(&mut self.book, pass.pid, disk);
                 Err(StoreNo::Disk)
             }
-            Err(LogFault::NoMemory) => Err(StoreNo::NoMemory),
-            // There is room for all that is staged, and the log isn't broken.
-            Err(LogFault::Full { need: _, room: _ }) => unreachable!(),
-            Err(LogFault::Broken { since: _ }) => unreachable!(),
+            Written::NoMemory => Err(StoreNo::NoMemory),
+        }
+    }
+}
+
+impl<D: Disk, B: Chronicle<BookEntry>> Apart<D, B> {
+    ghost use Rattle.std.specs.Prelude.{◌≡◌, ◌⊎◌, ◌-◌, ◌≤◌, [], List, Some, None, OnOk, true};
+    ghost use Rattle.pm_query.specs.{declared.book.BookEntry.BookEntry, Calls.{CheckpointNotes, FlushNotes, due_bytes}};
+    ghost use Rattle.pm_segment.specs.{declared.commits.Commits.Commits, Apart.MovesOn, Causes.IsUnbroken, Flushes.{FlushCause, FlushesAll, IsLonger, WriteNotes, WritesNothing}, Lending.IsHome, Moment.{HasDiskAt, HasLogAt, alone, over, over_as}, Passes.{Admits, user_in}, Redos.{CheckpointCause, FullAtLast, MadeAfresh, MakesCalls}, Rests.IsAtRest};
+
+    // Appends the oldest of what is staged, as one batch, and answers up to where the log is flushed.
+    pub(crate) fn flush(&mut self, disk: &mut D, pass: &Pass) -> Result<u64, StoreNo>
+        requires admits { Admits pass.now (alone self.old) }
+        requires home { IsHome self.old }
+        requires rests { IsAtRest disk.old self.old }
+        ensures notes { (entries : List BookEntry)
+            × MovesOn entries disk.old self.old disk.new self.new
+            × FlushNotes (user_in (alone self.old) pass.now) result entries }
+        ensures admits { Admits pass.now (alone self.new) }
+        ensures home { IsHome self.new }
+        ensures rests { IsAtRest disk.new self.new }
+        ensures cause { (ways : Commits) → FlushCause (over_as ways disk.old self.old)
+            (over_as ways disk.new self.new) result }
+        ensures longer { OnOk result (IsLonger self.old.live self.new.live) }
+        ensures rest { WritesNothing self.old.stage.commits result
+            → HasLogAt disk.old self.old disk.new self.new }
+    {
+        match self.lend(pass) {
+            Lending::Answered(result) => result,
+            Lending::Lent(batch) => {
+                let written = batch.write(disk);
+                self.mark(pass, batch, disk, written)
+            }
         }
     }
 
-    // Writes all that is staged, batch by batch, and answers the log after it.
-    fn write_all(&mut self, pass: &Pass, live: Live) -> Result<Live, StoreNo>
-        requires admits { Admits pass.now (moment self.old) }
-        requires room { length self.old.inside + 1 ≤ B.spare self.old.book }
-        requires read { self.old.live ≡ Some live }
-        requires unbroken { live.log.since ≡ None }
+    // Writes all that is staged, batch by batch.
+    fn flush_all(&mut self, disk: &mut D, pass: &Pass) -> Result<(), StoreNo>
+        requires admits { Admits pass.now (alone self.old) }
+        requires home { IsHome self.old }
+        requires rests { IsAtRest disk.old self.old }
+        requires unbroken { IsUnbroken self.old.live }
         ensures notes { (entries : List BookEntry)
-            × Moves entries (moment self.old) (moment self.new)
-            × BatchNotes pass.now.pid result entries }
-        ensures admits { Admits pass.now (moment self.new) }
-        ensures room { OnOk result (length self.new.inside + 1 ≤ B.spare self.new.book) }
-        ensures read { IfOk result (λ new. (self.new.live ≡ Some new) × (new.log.since ≡ None)) }
+            × MovesOn entries disk.old self.old disk.new self.new
+            × WriteNotes pass.now.pid result entries }
+        ensures admits { Admits pass.now (alone self.new) }
+        ensures home { IsHome self.new }
+        ensures rests { IsAtRest disk.new self.new }
         ensures all { OnOk result (self.new.stage.commits ≡ []) }
-        ensures longer { IfOk result (λ new. (new.log.base_end ≡ live.log.base_end)
-            × (live.log.end ≤ new.log.end)) }
-        ensures rest { (moment self.old).staged ≡ [] → HasLogOf self.old self.new }
+        ensures longer { OnOk result (IsLonger self.old.live self.new.live) }
+        ensures rest { self.old.stage.commits ≡ []
+            → HasLogAt disk.old self.old disk.new self.new }
     {
-        let mut written = live;
         while !self.stage.batch().is_empty() {
-            written = self.write_batch(pass, written)?;
+            self.flush(disk, pass)?;
         }
-        Ok(written)
+        Ok(())
     }
 
     // Writes all that is staged, and then all rows as the base of the log's other file.
     pub(crate) fn move_all(
         &mut self,
+        disk: &mut D,
         pass: &Pass,
         live: Live,
         clean: bool,
     ) -> Result<Checkpointed, StoreNo>
-        requires admits { Admits pass.now (moment self.old) }
-        requires room { length self.old.inside + 1 ≤ B.spare self.old.book }
+        requires admits { Admits pass.now (alone self.old) }
+        requires home { IsHome self.old }
+        requires rests { IsAtRest disk.old self.old }
         requires read { self.old.live ≡ Some live }
         requires unbroken { live.log.since ≡ None }
         requires due { (clean ≡ true) ⊎ (due_bytes ≤ live.log.end - live.log.base_end) }
         ensures notes { (entries : List BookEntry)
-            × Moves entries (moment self.old) (moment self.new)
-            × CheckpointNotes (user_in (moment self.old) pass.now) clean result entries }
-        ensures admits { Admits pass.now (moment self.new) }
-        ensures cause { CheckpointCause (moment self.old).live clean result }
-        ensures still { (moment self.old).staged ≡ [] → ¬ (MakesCalls result)
-            → HasDiskOf self.old self.new }
-        ensures full { FullAtLast (moment self.new).files result }
-        ensures afresh { MadeAfresh clean (moment self.new) result }
-        ensures flushed { FlushesAll (moment self.new) result }
+            × MovesOn entries disk.old self.old disk.new self.new
+            × CheckpointNotes (user_in (alone self.old) pass.now) clean result entries }
+        ensures admits { Admits pass.now (alone self.new) }
+        ensures home { IsHome self.new }
+        ensures rests { IsAtRest disk.new self.new }
+        ensures none { self.old.stage.commits ≡ [] → self.new.stage.commits ≡ [] }
+        ensures cause { CheckpointCause self.old.live clean result }
+        ensures still { self.old.stage.commits ≡ [] → ¬ (MakesCalls result)
+            → HasDiskAt disk.old self.old disk.new self.new }
+        ensures full { FullAtLast (D.seen disk.new) result }
+        ensures afresh { MadeAfresh clean (over disk.new self.new) result }
+        ensures flushed { (ways : Commits) → FlushesAll (over_as ways disk.new self.new) result }
     {
-        let written = self.write_all(pass, live)?;
-        self.move_log(pass, written, clean)
+        self.flush_all(disk, pass)?;
+        let room = self.entries_for(1);
+        self.book.reserve(room)?;
+        let Some(written) = self.live else {
+            unreachable!()
+        };
+        self.move_log(disk, pass, written, clean)
     }
+}
+
+// Equal commits.
+fn copied(alloc: Global, batch: &[Commit]) -> Result<Vec<Commit>, AllocError>
+    ensures { IfOk result (λ copy. copy.items ≡ batch.now) }
+{
+    let mut copy = Vec::with_capacity(alloc, batch.len())?;
+    for commit in batch {
+        copy.push(commit.copy()?)?;
+    }
+    Ok(copy)
 }

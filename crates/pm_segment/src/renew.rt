@@ -4,8 +4,9 @@ ghost use Rattle.std.specs.Prelude.{◌≡◌, ◌+◌, ◌≤◌, length, map};
 ghost use Rattle.pm_query.specs.declared.book.BookEntry.TheVariants.{Gone};
 ghost use Rattle.pm_outside.specs.Added.{Added};
 
+use crate::apart::Apart;
 use crate::children::Children;
-use crate::segment::{Segment, history_laws};
+use crate::segment::history_laws;
 use pm_disk::Disk;
 use pm_outside::Chronicle;
 use pm_query::BookEntry;
@@ -13,24 +14,25 @@ use pm_rows::Rows;
 use pm_stage::Stage;
 use std::alloc::AllocError;
 
-impl<D: Disk, B: Chronicle<BookEntry>> Segment<D, B> {
+impl<D: Disk, B: Chronicle<BookEntry>> Apart<D, B> {
     ghost use Rattle.std.specs.Prelude.{◌++◌, ◌∷◌, [], ℕ, List, OnOk, OnErr};
     ghost use Rattle.pm_query.specs.declared.book.BookEntry.TheVariants.{Opened};
-    ghost use Rattle.pm_segment.specs.{Children.AreOthers, Moment.{book_of, disk_of, moment}, Moves.{IsAsBefore, Renews}};
+    ghost use Rattle.pm_segment.specs.{Children.AreOthers, Apart.RenewsOn, Lending.IsHome, Moment.{alone, over_as}, Moves.IsAsBefore, Rests.IsAtRest, declared.commits.Commits.{Commits}};
 
-    /// Begins the next generation: the children named are gone, and so is every other one that is still inside. Its rows
-    /// are those of no commit, nothing is staged, and its log isn't read, until its redo. Where memory is short nothing has changed.
-    ///
-    /// It makes no call of the disk, and takes time of the order of the children inside times those named.
-    pub fn renew(&mut self, generation: u32, gone: &[u32]) -> Result<(), AllocError>
-        requires { generation ≡ (moment self.old).generation + 1 }
+    // The same of all that a store has but for its disk. It is home meanwhile.
+    pub(crate) fn renew(&mut self, generation: u32, gone: &[u32]) -> Result<(), AllocError>
+        requires next { generation ≡ (alone self.old).generation + 1 }
+        requires home { IsHome self.old }
         ensures renews { OnOk result ((others : List ℕ)
-            × AreOthers (moment self.old).inside gone.now others
-            × Renews (map Gone (gone.now ++ others) ++ Opened generation ∷ [])
-            (moment self.old) (moment self.new)) }
-        ensures refused { OnErr result (IsAsBefore (moment self.old) (moment self.new)) }
-        ensures room { OnErr result (B.spare (book_of self.old) ≤ B.spare (book_of self.new)) }
-        ensures disk { disk_of self.new ≡ disk_of self.old }
+            × AreOthers (alone self.old).inside gone.now others
+            × RenewsOn (map Gone (gone.now ++ others) ++ Opened generation ∷ [])
+            self.old self.new) }
+        ensures refused { OnErr result ((ways : Commits) (disk : D)
+            → IsAsBefore (over_as ways disk self.old) (over_as ways disk self.new)) }
+        ensures room { OnErr result (B.spare self.old.book ≤ B.spare self.new.book) }
+        ensures unstaged { OnOk result (self.new.stage.commits ≡ []) }
+        ensures home { IsHome self.new }
+        ensures rests { (disk : D) → IsAtRest disk self.old → IsAtRest disk self.new }
     {
         history_laws();
         let others = self.inside.others(self.alloc, gone)?;

@@ -4,67 +4,52 @@
 //! without a call of the disk, until a flush. All memory that a call takes for that is taken before its first call of the disk,
 //! and its entries are noted after it, so that each call of the disk has its entry.
 
-ghost use Rattle.std.specs.Prelude.{◌≡◌, ◌≤◌, [], length};
-ghost use Rattle.pm_query.specs.{pm_rows.Limits.IsWithinRowLimits, Limits.HasShortRows, BookLaws.AckedNeverFalls, TickLaws.{PastStays, PresentIsWhole}};
-ghost use Rattle.pm_segment.specs.{Rests.Rests, Waits.IsBehind, declared.commits.Commits.{Commits, TheVariants.AtOnce}};
+ghost use Rattle.std.specs.Prelude.{◌≡◌, [], false};
+ghost use Rattle.pm_query.specs.{BookLaws.AckedNeverFalls, TickLaws.{PastStays, PresentIsWhole}};
+ghost use Rattle.pm_segment.specs.{Rests.IsAtRest, declared.commits.Commits.{Commits, TheVariants.AtOnce}};
 
+use crate::apart::Apart;
 use crate::children::Children;
+use crate::commit::Begun;
 use crate::commits::Commits;
-use crate::live::Live;
 use crate::pass::Pass;
-use crate::ran::Ran;
 use pm_disk::Disk;
 use pm_outside::Chronicle;
 use pm_query::{
-    BookEntry, CHECKPOINT_BYTES, Checkpointed, Seen, Staged, Store, StoreNo, acked_never_falls,
-    checkpoint_bytes_are_the_number, past_stays, present_is_whole,
+    BookEntry, Checkpointed, Seen, Staged, Store, StoreNo, acked_never_falls, past_stays,
+    present_is_whole,
 };
-use pm_record::RedoFault;
 use pm_rows::Rows;
 use pm_sql::Script;
 use pm_stage::Stage;
-use std::alloc::Global;
+use std::alloc::{AllocError, Global};
+use std::marker::PhantomData;
 
 /// The generation in which a store begins.
 const FIRST_GENERATION: u32 = 1;
 
 /// What the children of a generation share: the rows, the log on its disk, and the book of what happened.
 ///
-/// Its type keeps that the book has room for the leave of each child inside, and that the log rests on the disk with these
-/// rows, up to what is staged, while it goes on. That the book is legal, and that rows and log are its replay, holds from the moment at which the
+/// Its type keeps that the log rests on the disk with these rows, up to what is staged, while it goes on. That the book is legal, and that rows and log are its replay, holds from the moment at which the
 /// segment got its disk, and from the base that its first redo found: each call says that it keeps this, for every such
 /// beginning (`Moves`).
 #[derive(Drop)]
 pub struct Segment<D: Disk, B: Chronicle<BookEntry>> {
+    pub(crate) apart: Apart<D, B>,
     pub(crate) disk: D,
-    pub(crate) book: B,
-    pub(crate) generation: u32,
-    pub(crate) inside: Children,
-    pub(crate) rows: Rows,
-    // The log, once it was read.
-    pub(crate) live: Option<Live>,
-    // Whether a checkpoint was asked for before that.
-    pub(crate) skipped: bool,
     pub(crate) commits: Commits,
-    // What waits for the log.
-    pub(crate) stage: Stage,
-    pub(crate) alloc: Global,
-    ghost begun: { 1 ≤ generation },
-    ghost short: { HasShortRows rows },
-    ghost limits: { IsWithinRowLimits rows },
-    ghost rests: { ∥ Rests live rows stage.commits (D.seen disk) (D.images disk (D.ticks disk)) ∥₁ },
-    ghost behind: { ∥ IsBehind live stage ∥₁ },
-    ghost at_once: { commits ≡ AtOnce → stage.commits ≡ [] },
-    ghost room: { length inside ≤ B.spare book },
+    ghost rests: { IsAtRest disk apart },
+    ghost home: { apart.lent ≡ false },
+    ghost at_once: { commits ≡ AtOnce → apart.stage.commits ≡ [] },
 }
 
 /// A segment that one thread has for itself. It needs no lock, and stages nothing where it writes commits at once.
 pub type Sole<D, B> = Segment<D, B>;
 
 impl<D: Disk, B: Chronicle<BookEntry>> Segment<D, B> {
-    ghost use Rattle.std.specs.Prelude.{[], ◌∷◌, Some, IfOk, IfErr, option_map};
-    ghost use Rattle.pm_query.specs.declared.book.BookEntry.{BookEntry};
-    ghost use Rattle.pm_segment.specs.{Fronts.flushed_of, Moment.{book_of, disk_of, moment}, Redos.is_broken, Stands.WaitsFrom};
+    ghost use Rattle.std.specs.Prelude.{ℕ, ◌+◌, ◌≤◌, [], ◌∷◌, ◌++◌, List, map, Some, IfOk, IfErr, OnOk, OnErr, option_map};
+    ghost use Rattle.pm_query.specs.declared.book.BookEntry.{BookEntry, TheVariants.{Gone, Opened}};
+    ghost use Rattle.pm_segment.specs.{Children.AreOthers, Moves.{IsAsBefore, Renews}, Fronts.flushed_of, Lending.IsHome, Moment.{apart_of, book_of, disk_of, moment}, Redos.is_broken, Stands.WaitsFrom};
     ghost use Rattle.pm_outside.specs.Added.{Added};
 
     /// A store in its first generation, which has no rows before its redo. Where memory is short disk and book come back.
@@ -94,17 +79,22 @@ impl<D: Disk, B: Chronicle<BookEntry>> Segment<D, B> {
         book.note(BookEntry::Opened {
             generation: FIRST_GENERATION,
         });
-        Ok(Segment {
-            disk,
+        let apart = Apart {
             book,
             generation: FIRST_GENERATION,
             inside: Children::new(alloc),
             rows: Rows::new(alloc),
             live: None,
             skipped: false,
-            commits,
             stage: Stage::new(alloc, 0),
+            lent: false,
             alloc,
+            kind: PhantomData,
+        };
+        Ok(Segment {
+            apart,
+            disk,
+            commits,
         })
     }
 
@@ -112,14 +102,14 @@ impl<D: Disk, B: Chronicle<BookEntry>> Segment<D, B> {
     pub fn generation(&self) -> u32
         ensures { result ≡ (moment self.now).generation }
     {
-        self.generation
+        self.apart.generation()
     }
 
     /// Whether its log is broken: the disk has failed since the redo of this generation.
     pub fn is_broken(&self) -> bool
         ensures { result ≡ is_broken (moment self.now).live }
     {
-        match self.live {
+        match self.apart.live {
             None => false,
             Some(live) => live.log.since.is_some(),
         }
@@ -129,7 +119,24 @@ impl<D: Disk, B: Chronicle<BookEntry>> Segment<D, B> {
     pub fn flushed(&self) -> Option<u64>
         ensures { result ≡ option_map flushed_of (moment self.now).live }
     {
-        self.live.map(|live| live.log.count)
+        self.apart.flushed()
+    }
+
+    /// Begins the next generation: the children named are gone, and so is every other one that is still inside. Its rows
+    /// are those of no commit, nothing is staged, and its log isn't read, until its redo. Where memory is short nothing has changed.
+    ///
+    /// It makes no call of the disk, and takes time of the order of the children inside times those named.
+    pub fn renew(&mut self, generation: u32, gone: &[u32]) -> Result<(), AllocError>
+        requires { generation ≡ (moment self.old).generation + 1 }
+        ensures renews { OnOk result ((others : List ℕ)
+            × AreOthers (moment self.old).inside gone.now others
+            × Renews (map Gone (gone.now ++ others) ++ Opened generation ∷ [])
+            (moment self.old) (moment self.new)) }
+        ensures refused { OnErr result (IsAsBefore (moment self.old) (moment self.new)) }
+        ensures room { OnErr result (B.spare (book_of self.old) ≤ B.spare (book_of self.new)) }
+        ensures disk { disk_of self.new ≡ disk_of self.old }
+    {
+        self.apart.renew(generation, gone)
     }
 
     /// Gives the disk and the book back. It takes no memory.
@@ -137,25 +144,59 @@ impl<D: Disk, B: Chronicle<BookEntry>> Segment<D, B> {
         ensures { (result.0 ≡ disk_of self) × (result.1 ≡ book_of self) }
     {
         let Segment {
+            apart,
             disk,
+            commits: _,
+        } = self;
+        let Apart {
             book,
             generation: _,
             inside: _,
             rows: _,
             live: _,
             skipped: _,
-            commits: _,
             stage: _,
+            lent: _,
             alloc: _,
-        } = self;
+            kind: _,
+        } = apart;
         (disk, book)
+    }
+
+    /// What it has but for its disk, and the disk. It is of a store that stages commits.
+    pub fn part(self) -> (Apart<D, B>, D)
+        requires { (moment self).commits ≡ Commits.Staged }
+        ensures parts { (result.0 ≡ apart_of self) × (result.1 ≡ disk_of self) }
+        ensures home { IsHome result.0 }
+        ensures rests { IsAtRest result.1 result.0 }
+    {
+        let Segment {
+            apart,
+            disk,
+            commits: _,
+        } = self;
+        (apart, disk)
+    }
+
+    /// A store that stages commits, with this disk.
+    pub fn join(apart: Apart<D, B>, disk: D) -> Segment<D, B>
+        requires home { IsHome apart }
+        requires rests { IsAtRest disk apart }
+        ensures parts { (apart_of result ≡ apart) × (disk_of result ≡ disk) }
+        ensures staged { (moment result).commits ≡ Commits.Staged }
+    {
+        Segment {
+            apart,
+            disk,
+            commits: Commits::Staged,
+        }
     }
 }
 
 impl<D: Disk, B: Chronicle<BookEntry>> Store for Segment<D, B> {
     ghost use Rattle.std.{proofs.Common.{Some, ap}, specs.Prelude.{◌≡◌, ◌⊎◌, ◌∷◌, [], All, List, IfOk, OnOk, OnErr}};
     ghost use Rattle.pm_query.specs.{declared.{book.BookEntry.BookEntry, store.StoreNo.StoreNo}, Calls.{CheckpointNotes, EnterNotes, FlushNotes, HasReached, IsPast, LearnsFront, LearnsReason, LeaveNotes, MetAnother, MetLater, ReachesNoLess, RedoNotes, RunNotes, SeenNotes, new_pass, newcomer, with_front}, Limits.HasShortValues};
-    ghost use Rattle.pm_segment.specs.{Causes.{MakesNoCall, RunCause, SeenCause, staged_behind}, Flushes.{FlushCause, FlushesAll, WritesNothing}, Moment.{HasDiskOf, HasLogOf, disk_of, moment}, Moves.Moves, MovesLaws.{moves_none, moves_on, never_falls}, Passes.{Admits, user_in, view_of}, Redos.{CheckpointCause, FullAtLast, GoesOnAsFound, HasReason, IsRead, LeavesFiles, LeavesUnread, MadeAfresh, MakesCalls}};
+    ghost use Rattle.pm_segment.specs.{Causes.{MakesNoCall, RunCause, SeenCause, staged_behind}, Flushes.{FlushCause, FlushesAll, WritesNothing}, Moment.{HasDiskOf, HasLogOf, disk_of, moment}, Moves.Moves, MovesLaws.{moves_none, moves_on, never_falls}, Passes.{Admits, user_in, view_of}, ReadsApart.AnswersEarly, Redos.{CheckpointCause, FullAtLast, GoesOnAsFound, HasReason, IsRead, LeavesFiles, LeavesUnread, MadeAfresh, MakesCalls}};
 
     type Pass = Pass;
 
@@ -181,21 +222,7 @@ impl<D: Disk, B: Chronicle<BookEntry>> Store for Segment<D, B> {
 
         ensures rest { HasLogOf self.old self.new }
     {
-        history_laws();
-        if generation != self.generation {
-            return Err(StoreNo::Stale {
-                mine: generation,
-                found: self.generation,
-            });
-        }
-        self.book.reserve(self.inside.entries_for(2))?;
-        self.inside.add(pid)?;
-        self.book.note(BookEntry::Attached { pid, generation });
-        Ok(Pass {
-            pid,
-            generation,
-            front: None,
-        })
+        self.apart.enter(pid, generation)
     }
 
     fn run(&mut self, pass: &mut Pass, script: &Script) -> Result<Staged, StoreNo>
@@ -212,6 +239,8 @@ impl<D: Disk, B: Chronicle<BookEntry>> Store for Segment<D, B> {
         ensures stale { MetLater (moment self.new).generation pass.old.generation result }
 
         ensures cause { RunCause (moment self.old) script.now result }
+        ensures early { IfOk result (λ staged.
+            AnswersEarly (moment self.old) pass.old.front script.now staged.front) }
         ensures rest { MakesNoCall (moment self.old).rows script.now result
             → HasLogOf self.old self.new }
         ensures still { (moment self.old).commits ≡ Commits.Staged
@@ -219,19 +248,11 @@ impl<D: Disk, B: Chronicle<BookEntry>> Store for Segment<D, B> {
         ensures staged { (moment self.new).staged
             ≡ staged_behind (moment self.old) script.now result }
     {
-        history_laws();
-        let Some(live) = self.live else {
-            return Err(StoreNo::NoMemory);
-        };
-        self.book.reserve(self.inside.entries_for(2))?;
-        if let Some(broke_at) = live.log.since {
-            return Err(self.broken(pass, live, broke_at));
+        let begun = self.apart.begin(pass, script, self.commits)?;
+        match begun {
+            Begun::Answered(staged) => Ok(staged),
+            Begun::Commits(live, ran) => self.apart.append(&mut self.disk, pass, live, ran),
         }
-        let ran = Ran::of(self.alloc, &self.rows, script)?;
-        if ran.commit.changes().is_empty() {
-            return Ok(self.read(pass, live, ran));
-        }
-        self.write(pass, live, ran)
     }
 
     fn seen(&mut self, pass: &mut Pass, front: u64) -> Result<Seen, StoreNo>
@@ -247,25 +268,7 @@ impl<D: Disk, B: Chronicle<BookEntry>> Store for Segment<D, B> {
         ensures cause { SeenCause (moment self.old).live front result }
         ensures rest { HasLogOf self.old self.new }
     {
-        history_laws();
-        self.book.reserve(self.inside.entries_for(1))?;
-        let Some(live) = self.live else {
-            return Err(StoreNo::NoMemory);
-        };
-        if front <= live.log.count {
-            self.book.note(BookEntry::Released {
-                pid: pass.pid,
-                front,
-                tick: live.mark,
-            });
-            return Ok(Seen::Released);
-        }
-        if let Some(since) = live.log.since {
-            return Err(self.broken(pass, live, since));
-        }
-        Ok(Seen::NotFlushed {
-            flushed: live.log.count,
-        })
+        self.apart.seen(pass, front)
     }
 
     fn flush(&mut self, pass: &mut Pass) -> Result<u64, StoreNo>
@@ -281,16 +284,7 @@ impl<D: Disk, B: Chronicle<BookEntry>> Store for Segment<D, B> {
         ensures cause { FlushCause (moment self.old) (moment self.new) result }
         ensures rest { WritesNothing (moment self.old).staged result → HasLogOf self.old self.new }
     {
-        history_laws();
-        self.book.reserve(self.inside.entries_for(1))?;
-        let Some(live) = self.live else {
-            return Err(StoreNo::NoMemory);
-        };
-        if let Some(since) = live.log.since {
-            return Err(self.broken(pass, live, since));
-        }
-        let written = self.write_batch(pass, live)?;
-        Ok(written.log.count)
+        self.apart.flush(&mut self.disk, pass)
     }
 
     fn redo(&mut self, pass: &mut Pass) -> Result<u64, StoreNo>
@@ -310,22 +304,7 @@ impl<D: Disk, B: Chronicle<BookEntry>> Store for Segment<D, B> {
         ensures unread { LeavesUnread (moment self.new).live result }
         ensures found { GoesOnAsFound (moment self.old) (moment self.new) }
     {
-        history_laws();
-        if self.book.reserve(self.inside.entries_for(1)).is_err() {
-            return Err(StoreNo::Redo(RedoFault::NoMemory));
-        }
-        if let Some(live) = self.live {
-            self.book.note(BookEntry::Redone {
-                pid: pass.pid,
-                generation: self.generation,
-                kept: live.kept,
-            });
-            return Ok(live.kept);
-        }
-        if self.skipped {
-            return Err(StoreNo::Redo(RedoFault::NoMemory));
-        }
-        self.read_log(pass)
+        self.apart.redo(&mut self.disk, pass)
     }
 
     fn checkpoint(&mut self, pass: &mut Pass, clean: bool) -> Result<Checkpointed, StoreNo>
@@ -344,26 +323,7 @@ impl<D: Disk, B: Chronicle<BookEntry>> Store for Segment<D, B> {
         ensures afresh { MadeAfresh clean (moment self.new) result }
         ensures flushed { FlushesAll (moment self.new) result }
     {
-        history_laws();
-        checkpoint_bytes_are_the_number();
-        self.book.reserve(self.inside.entries_for(1))?;
-        let Some(live) = self.live else {
-            self.skipped = true;
-            self.book.note(BookEntry::CheckpointEnded {
-                pid: pass.pid,
-                done: false,
-                clean,
-            });
-            return Ok(Checkpointed::Skipped);
-        };
-        if let Some(since) = live.log.since {
-            return Err(self.broken(pass, live, since));
-        }
-        let behind = live.log.behind();
-        if !clean && behind < CHECKPOINT_BYTES {
-            return Ok(Checkpointed::NotDue { behind });
-        }
-        self.move_all(pass, live, clean)
+        self.apart.checkpoint(&mut self.disk, pass, clean)
     }
 
     fn leave(&mut self, pass: Pass)
@@ -376,9 +336,7 @@ impl<D: Disk, B: Chronicle<BookEntry>> Store for Segment<D, B> {
 
         ensures rest { HasLogOf self.old self.new }
     {
-        history_laws();
-        self.inside.remove(pass.pid);
-        self.book.note(BookEntry::Detached { pid: pass.pid });
+        self.apart.leave(pass);
     }
 
     ghost at_rest = { λ store. moves_none (moment store) };
@@ -390,33 +348,6 @@ impl<D: Disk, B: Chronicle<BookEntry>> Store for Segment<D, B> {
     ghost rises = { λ before now entries moves. never_falls (moment before).generation (moment now).generation moves.generation };
 
     ghost keeps = { λ before now entries moves fact one. one };
-}
-
-impl<D: Disk, B: Chronicle<BookEntry>> Segment<D, B> {
-    ghost use Rattle.std.specs.Prelude.{◌+◌, ◌≤◌, ◌∷◌, [], length, Some};
-    ghost use Rattle.pm_query.specs.declared.{book.BookEntry.BookEntry, store.StoreNo.StoreNo};
-    ghost use Rattle.pm_segment.specs.{Moment.{HasLogOf, moment}, Moves.Moves, Passes.Admits};
-
-    // Tells the fault again that broke the log, under this child.
-    fn broken(&mut self, pass: &Pass, live: Live, since: u64) -> StoreNo
-        requires room { length self.old.inside + 1 ≤ B.spare self.old.book }
-        requires admits { Admits pass.now (moment self.old) }
-        requires read { self.old.live ≡ Some live }
-        requires broken { live.log.since ≡ Some since }
-        ensures answer { result ≡ StoreNo.Broken since }
-        ensures notes { Moves (BookEntry.Broke pass.now.pid since live.faults ∷ [])
-            (moment self.old) (moment self.new) }
-        ensures admits { Admits pass.now (moment self.new) }
-        ensures rest { HasLogOf self.old self.new }
-    {
-        history_laws();
-        self.book.note(BookEntry::Broke {
-            pid: pass.pid,
-            since,
-            faults: live.faults,
-        });
-        StoreNo::Broken { since }
-    }
 }
 
 // The laws of histories, by which an entry keeps a run.

@@ -39,7 +39,7 @@ last_of P xs x each =
     subst (λ (k : ℕ). P k x) same (each (length xs) x (got_last xs x))
 
 module _ {R C L D B : Type 0} {link : _} (gives : C → ℕ → Type 0) (terms : Terms C) (board home : TableId) (first : Option D) where
-  pub one_work : (k : ℕ) (token : TokenModel D) (post : PostModel MailTold) (clock : C) (work : Child R C L (TokenStore R D B) link) → IsNewToken home first k token → IsPostOf board terms.plan.max_connections k post
+  pub one_work : (k : ℕ) (token : TokenModel D) (post : PostModel MailTold) (clock : C) (work : Child R C L (TokenStore R C D B) link) → IsNewToken home first k token → IsPostOf board terms.plan.max_connections k post
       → ((moment : ℕ) → gives clock moment → gives terms.clock.value moment) → work.tools.clock ≡ clock → work.tools.seed ≡ terms.plan.seed → work.tools.conf ≡ terms.plan.conf → work.post ≡ post
       → work.store.token ≡ token → IsWorkOf gives terms board home first k work
   one_work k token post clock work unused is_post moments clock_is seed conf post_is token_is =
@@ -54,8 +54,8 @@ module _ {R C L D B : Type 0} {link : _} (gives : C → ℕ → Type 0) (terms :
         moments = λ moment given. moments moment (subst (λ (c : C). gives c moment) clock_is given);
       }
 
-  pub filled_more : (rest : List (TokenModel D)) (token : TokenModel D) (posts : List (PostModel MailTold)) (post : PostModel MailTold) (clock : C) (work : Child R C L (TokenStore R D B) link)
-      (works : List (Child R C L (TokenStore R D B) link)) → EachFrom (IsNewToken home first) 0 (rest ++ token ∷ []) → EachFrom (IsPostOf board terms.plan.max_connections) 0 (posts ++ post ∷ [])
+  pub filled_more : (rest : List (TokenModel D)) (token : TokenModel D) (posts : List (PostModel MailTold)) (post : PostModel MailTold) (clock : C) (work : Child R C L (TokenStore R C D B) link)
+      (works : List (Child R C L (TokenStore R C D B) link)) → EachFrom (IsNewToken home first) 0 (rest ++ token ∷ []) → EachFrom (IsPostOf board terms.plan.max_connections) 0 (posts ++ post ∷ [])
       → length posts ≡ length rest → ((moment : ℕ) → gives clock moment → gives terms.clock.value moment) → work.tools.clock ≡ clock → work.tools.seed ≡ terms.plan.seed
       → work.tools.conf ≡ terms.plan.conf → work.post ≡ post → work.store.token ≡ token → EachFrom (IsWorkOf gives terms board home first) (length (rest ++ token ∷ [])) works
       → EachFrom (IsWorkOf gives terms board home first) (length rest) (work ∷ works)

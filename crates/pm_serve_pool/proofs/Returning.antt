@@ -37,5 +37,5 @@ module _ {F : Type 0} where
 
 module _ {R C L D B : Type 0} {link : _} (gives : C → ℕ → Type 0) (terms : Terms C) (board home : TableId) (disk : Option D) where
   -- a work that wasn't started has an unused token
-  pub unused_works : (first : ℕ) (works : List (Child R C L (TokenStore R D B) link)) → EachFrom (IsWorkOf gives terms board home disk) first works → EachFrom (IsUnusedWork home) first works
+  pub unused_works : (first : ℕ) (works : List (Child R C L (TokenStore R C D B) link)) → EachFrom (IsWorkOf gives terms board home disk) first works → EachFrom (IsUnusedWork home) first works
   unused_works first works each i work at = let w = each i work at in record { home_is = w.home_is; number = w.number; own = w.own }

@@ -18,18 +18,18 @@ idle_closed {F} manner n tokens count limit posts d e first s t d_is new closed 
     }
 
 module _ {R C L D B : Type 0} {link : _} (gives : C → ℕ → Type 0) (terms : Terms C) (board home : TableId) (disk : Option D) where
-  pub all_idle : (works : List (Child R C L (TokenStore R D B) link)) → EachFrom (IsWorkOf gives terms board home disk) 0 works → All (λ work. work.post.knows.work ≡ Idle) works
-  all_idle works each = All-from_recursion (λ (work : Child R C L (TokenStore R D B) link). work.post.knows.work ≡ Idle) works
-      (all_of_each (λ (work : Child R C L (TokenStore R D B) link). work.post.knows.work ≡ Idle) works (λ i work at. ap (λ p. p.knows.work) (each i work at).post_is))
+  pub all_idle : (works : List (Child R C L (TokenStore R C D B) link)) → EachFrom (IsWorkOf gives terms board home disk) 0 works → All (λ work. work.post.knows.work ≡ Idle) works
+  all_idle works each = All-from_recursion (λ (work : Child R C L (TokenStore R C D B) link). work.post.knows.work ≡ Idle) works
+      (all_of_each (λ (work : Child R C L (TokenStore R C D B) link). work.post.knows.work ≡ Idle) works (λ i work at. ap (λ p. p.knows.work) (each i work at).post_is))
 
   -- those that are left when these were started
-  pub left_unused : {A : Type 0} (of : A → Child R C L (TokenStore R D B) link) (running : List A) (left all : List (Child R C L (TokenStore R D B) link)) → map of running ++ left ≡ all
+  pub left_unused : {A : Type 0} (of : A → Child R C L (TokenStore R C D B) link) (running : List A) (left all : List (Child R C L (TokenStore R C D B) link)) → map of running ++ left ≡ all
       → EachFrom (IsWorkOf gives terms board home disk) 0 all → EachFrom (IsUnusedWork home) (length running) left
   left_unused of running left all is each =
       let count : 0 + length (map of running) ≡ length running = (let h = length-map running of in omega (arith, h)) in
       subst (λ (n : ℕ). EachFrom (IsUnusedWork home) n left) count
       (unused_works gives terms board home disk (0 + length (map of running)) left
-      (back_of_all (IsWorkOf gives terms board home disk) 0 (map of running) left (subst (λ (works : List (Child R C L (TokenStore R D B) link)). EachFrom (IsWorkOf gives terms board home disk) 0 works) (sym is) each)))
+      (back_of_all (IsWorkOf gives terms board home disk) 0 (map of running) left (subst (λ (works : List (Child R C L (TokenStore R C D B) link)). EachFrom (IsWorkOf gives terms board home disk) 0 works) (sym is) each)))
 
 -- no more were started than there were
 pub started_few : {A W : Type 0} (of : A → W) (running : List A) (left all : List W) → map of running ++ left ≡ all → length running + length left ≡ length all

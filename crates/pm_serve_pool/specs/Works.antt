@@ -22,7 +22,7 @@ pub record IsNewWork {R C F : Type 0} (gives : C → ℕ → Type 0) (terms : Te
   pub moments : (moment : ℕ) → gives tools.clock moment → gives terms.clock.value moment
 
 -- such a work, as one that a thread does
-abbrev pub IsWorkOf : {R C L D B : Type 0} {link : _} → (gives : C → ℕ → Type 0) → Terms C → (board home : TableId) → Option D → ℕ → Child R C L (TokenStore R D B) link → Type 0
+abbrev pub IsWorkOf : {R C L D B : Type 0} {link : _} → (gives : C → ℕ → Type 0) → Terms C → (board home : TableId) → Option D → ℕ → Child R C L (TokenStore R C D B) link → Type 0
 IsWorkOf gives terms board home first k work = IsNewWork gives terms board home first k work.tools work.post work.store.token
 
 -- a token of this store with this number, that has noted nothing
@@ -32,7 +32,7 @@ pub record IsUnusedToken {F : Type 0} (home : TableId) (k : ℕ) (token : TokenM
   pub own : token.own ≡ []
 
 -- so is that of a work
-abbrev pub IsUnusedWork : {R C L D B : Type 0} {link : _} → (home : TableId) → ℕ → Child R C L (TokenStore R D B) link → Type 0
+abbrev pub IsUnusedWork : {R C L D B : Type 0} {link : _} → (home : TableId) → ℕ → Child R C L (TokenStore R C D B) link → Type 0
 IsUnusedWork home k work = IsUnusedToken home k work.store.token
 
 -- what the joined tokens noted is nothing

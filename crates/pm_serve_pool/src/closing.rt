@@ -82,7 +82,11 @@ fn close_one<
     let (post, store) = worker.join();
     release(rt, roster, slot);
     roster.gather(post);
-    let TokenStore { rt: _, token } = store;
+    let TokenStore {
+        rt: _,
+        token,
+        caller: _,
+    } = store;
     shared.take_back(token);
 }
 

@@ -14,5 +14,5 @@ mod refusing;
 mod stock;
 
 pub use making::make;
-pub use plan::{Plan, Terms, board_slots};
+pub use plan::{AUXILIARY_SLOTS, Plan, Terms, board_slots};
 pub use pool::{Made, NoPool, Pool, Unmade, Worker};

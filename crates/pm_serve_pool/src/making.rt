@@ -5,7 +5,7 @@ ghost use Rattle.pm_store_shared.specs.{pm_disk.Cause.Rose, Told.{AreNewTokens, 
 ghost use Rattle.pm_serve_pool.specs.{declared.pool.NoPool.TheVariants.NoThread, Given.{IsGivenBack, IsOpenedAlone}, Plan.slots_of, Pools.{IsPool, IsWithin}, Works.{EachFrom, IsWorkOf}};
 
 use crate::closing::close_all;
-use crate::plan::{Plan, Terms};
+use crate::plan::{CHECKPOINTER_SLOT, Plan, Terms, WRITER_SLOT};
 use crate::pool::{Made, NoPool, Pool, Unmade, Worker};
 use crate::refusing::give_up;
 use crate::stock::Stock;
@@ -14,7 +14,7 @@ use pm_disk::Disk;
 use pm_outside::{Chronicle, Clock, Link};
 use pm_query::BookEntry;
 use pm_spawn::{Spawner, start_all};
-use pm_store_shared::{Shared, TokenStore, Tokens};
+use pm_store_shared::{Caller, Shared, TokenStore, Tokens};
 use pm_worker::{Child, Mail, Tools};
 use std::alloc::Global;
 use std::collections::VecDeque;
@@ -43,6 +43,7 @@ fn fill<
     requires clocks { (vec_len stock.clocks ≡ slots_of terms.now.plan)
         × All (λ clock. (moment : ℕ) → C.gives clock moment
         → C.gives terms.now.clock.value moment) stock.clocks.items }
+    requires callers { vec_len stock.callers ≡ slots_of terms.now.plan }
     requires room { (stock.works.items ≡ []) × (slots_of terms.now.plan ≤ stock.works.cap) }
     requires tokens { AreNewTokens (slots_of terms.now.plan) shared.now tokens }
     ensures roster { result.0 ≡ stock.roster }
@@ -55,6 +56,7 @@ fn fill<
         roster,
         mut posts,
         mut clocks,
+        mut callers,
         mut works,
     } = stock;
     let mut tokens = tokens;
@@ -67,7 +69,9 @@ fn fill<
             conf: terms.plan.conf,
             seed: terms.plan.seed,
         };
-        works.push_front_reserved(Child::new(tools, post, TokenStore { rt, token }));
+        let clock = callers.pop().unwrap();
+        let caller = Caller::new(clock, WRITER_SLOT, CHECKPOINTER_SLOT);
+        works.push_front_reserved(Child::new(tools, post, TokenStore { rt, token, caller }));
     }
     (roster, works)
 }

@@ -5,6 +5,15 @@ ghost use Rattle.pm_serve_pool.specs.Plan.{slots_of};
 use pm_session::SessionConf;
 use std::snapshot::Snapshot;
 
+/// The slot of the checkpointer.
+pub(crate) const CHECKPOINTER_SLOT: u32 = 1;
+
+/// The slot of the writer.
+pub(crate) const WRITER_SLOT: u32 = 2;
+
+/// How many slots, the first ones, are for children that serve no connection: startup child, checkpointer and writer.
+pub const AUXILIARY_SLOTS: u32 = 3;
+
 /// What a pool is made by.
 #[derive(Clone, Copy, Debug, PartialEq, Eq)]
 pub struct Plan {
@@ -23,7 +32,9 @@ pub struct Plan {
 pub fn board_slots(serving: u32) -> u32
     ensures { serving ≤ 200 → result ≡ 3 + 2 * serving + 4 }
 {
-    serving.saturating_mul(2).saturating_add(3 + 4)
+    serving
+        .saturating_mul(2)
+        .saturating_add(AUXILIARY_SLOTS + 4)
 }
 
 impl Plan {

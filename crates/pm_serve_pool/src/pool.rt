@@ -13,7 +13,7 @@ use std::sync::Wait;
 use std::thread::Threads;
 
 /// The work of one worker.
-pub type Worker<R, C, L, D, B> = Child<R, C, L, TokenStore<R, D, B>>;
+pub type Worker<R, C, L, D, B> = Child<R, C, L, TokenStore<R, C, D, B>>;
 
 /// The threads of a server's workers, that of slot 0 first.
 #[derive(Drop)]

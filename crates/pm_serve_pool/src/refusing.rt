@@ -24,7 +24,11 @@ fn take_all_back<
     let mut works = works;
     while let Some(work) = works.pop_front() {
         let (_post, store) = work.apart();
-        let TokenStore { rt: _, token } = store;
+        let TokenStore {
+            rt: _,
+            token,
+            caller: _,
+        } = store;
         shared.take_back(token);
     }
 }

@@ -14,7 +14,7 @@ use std::alloc::{AllocError, Global};
 use std::collections::VecDeque;
 use std::sync::Wait;
 
-/// A board, and for each of its slots a post, a clock, and room for a work.
+/// A board, and for each of its slots a post, a clock, one for the calls of its store, and room for a work.
 #[derive(Drop)]
 pub(crate) struct Stock<
     R: Wait + Drop,
@@ -26,6 +26,7 @@ pub(crate) struct Stock<
     pub(crate) roster: Roster<Mail<L>>,
     pub(crate) posts: Vec<Post<Mail<L>>>,
     pub(crate) clocks: Vec<C>,
+    pub(crate) callers: Vec<C>,
     pub(crate) works: VecDeque<Worker<R, C, L, D, B>>,
 }
 
@@ -50,6 +51,7 @@ impl<
         ensures clocks { IfOk result (λ stock. (vec_len stock.clocks ≡ slots_of plan.now)
             × All (λ clock'. (moment : ℕ) → C.gives clock' moment → C.gives clock.now moment)
             stock.clocks.items) }
+        ensures callers { IfOk result (λ stock. vec_len stock.callers ≡ slots_of plan.now) }
         ensures works { IfOk result (λ stock. (stock.works.items ≡ [])
             × (slots_of plan.now ≤ stock.works.cap)) }
     {
@@ -59,6 +61,7 @@ impl<
             roster,
             posts: listed(alloc, posts)?,
             clocks: clocks(alloc, clock, slots)?,
+            callers: clocks(alloc, clock, slots)?,
             works: VecDeque::with_capacity(alloc, slots as usize)?,
         })
     }

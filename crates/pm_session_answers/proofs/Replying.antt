@@ -1,8 +1,8 @@
 -- Each reply of a session is right, where its entries stand in a legal book.
 use Rattle.std.{proofs.{Common.{◌≡◌, ◌⊎◌, inl, inr, ℕ, ◌≤◌, List, [], ◌∷◌, ◌++◌, Option, None, Some, fold, refl, sym, ap, subst, ◌∙◌, arith, append_assoc}, lemmas.List.Sums.fold-append}, specs.{Prelude.{IfSome, IsSome, map}, List.Any}}
 use Rattle.pm_session.specs.{pm_rows.{Fold.RowMap, Standing.Standing, declared.commit.Change.Change}, pm_outside.Traffic.Traffic, pm_sql.{declared.stmt.Stmt.Stmt, Statements.IsQueryText}, pm_session_exchange.{Sent.{Turn, Ran, Faulted, NotUtf8, Cancelled, LogIsFull, Memory, bytes_of, greeting}, Queries.{IsReleased, TurnNotes}}, Session.{AllNotes, HasPassed, IsServed, IsText, last_messages, pieces}}
-use Rattle.pm_query.{specs.{declared.{item.Item.Item, book.BookEntry.{BookEntry, TheVariants.{Attached, Answered, Released}}}, Answer.{commit_of, items_of}, BookLaws.{AckedIsWithin, AckedNeverFalls, AcknowledgedStays}, Calls.User, History.{History, acknowledged, count_of, number, rows_of, with_commit}, Book.{AnswersUpTo, Base, IsLegal, MayAnswer, MayGoOn, MayRelease, history_of, kept_after, kept_by_redo, present, present_after}}, proofs.HistoryLaws.{count_of-with_commit, going-append, history_push}}
-use Rattle.pm_session_answers.{proofs.{HistoryLaws.{base_stays, number_before, number_behind, rows_at_last}, Generations.{GoesOnFrom, OpensNone, goes_on_from, opens_none}, Own.{Parted, parted}, Prefixes.legal_before}, specs.{Own.{NoneBy, StandIn}, Replies.{AreRight, IsAnswered, IsRight, IsTurnedOff, Talk, with_changes}}}
+use Rattle.pm_query.{specs.{declared.{item.Item.Item, book.BookEntry.{BookEntry, TheVariants.{Attached, Answered, Released}}}, Answer.{commit_of, items_of}, BookLaws.{AckedIsWithin, AckedNeverFalls, AcknowledgedStays}, Calls.User, History.{History, acknowledged, count_of, number, rows_of, with_commit}, Book.{AnswersUpTo, Base, IsLegal, MayAnswer, MayGoOn, MayRelease, history_of, kept_after, kept_by_redo, present, present_after}}, proofs.{HistoryLaws.{answered_within, count_of-with_commit, going-append, history_push}, ReadingLaws.reads_commit_nothing}}
+use Rattle.pm_session_answers.{proofs.{HistoryLaws.{base_stays, number_before, number_behind, number_within, rows_at_last}, Generations.{GoesOnFrom, OpensNone, goes_on_from, opens_none}, Own.{Parted, parted}, Prefixes.legal_before}, specs.{Own.{NoneBy, StandIn}, Replies.{AreRight, IsAnswered, IsRight, IsTurnedOff, Talk, with_changes}}}
 
 some_of : (o : Option ℕ) → IsSome o → (n : ℕ) × (o ≡ Some n)
 some_of None is = absurd cc
@@ -70,29 +70,50 @@ module _ (stays : AcknowledgedStays) (never : AckedNeverFalls) (within : AckedIs
       let goes : GoesOnFrom (with_commit h r.commit) (history_of base mid) = kept_between before r between behind none legal in
       let end_is : history_of base end ≡ acknowledged (history_of base mid) r.front = history_push base mid (release r) in
       let acked : r.front ≤ (history_of base end).acked = omega (arith, ap (λ (x : History). x.acked) end_is) in
-      let up : n ≤ r.front = omega (arith, may.front_is, count_of-with_commit h r.commit) in
+      let high : r.front ≤ count_of (with_commit h r.commit) = answered_within h r.script r.items r.commit r.front may.front_is in
       let kept : (m : ℕ) → m ≤ r.front → number (history_of base all) m ≡ number (with_commit h r.commit) m =
       λ m le. subst (λ (b : List BookEntry). number (history_of base b) m ≡ number (with_commit h r.commit) m) (joined before r between behind)
       (stays base end behind m (subst (IsLegal base) (sym (joined before r between behind)) legal) (omega (arith, le, acked))
-      ∙ ap (λ (x : History). number x m) end_is ∙ goes.same m (omega (arith, le, may.front_is))) in
-      let at_n : number (history_of base all) n ≡ number h n = kept n up ∙ number_before h r.commit in
-      let rows : (number (history_of base all) n).rows ≡ rows_of h = ap (λ (s : Standing). s.rows) at_n ∙ rows_at_last h in
-      let low_n : h.acked ≤ n = within base before (legal_before r.pid r.front r.tick r.script r.items r.commit (between ++ release r ∷ behind) base before legal) in (
-        record {
-          script = r.script;
-          n = n;
-          query = query;
-          no_older = omega (arith, low, low_n);
-          reply_is = may.reply_is ∙ ap (λ (x : RowMap). items_of x r.script) (sym rows);
-          commit_is = kept r.front (omega arith)
-              ∙ ap (number (with_commit h r.commit)) may.front_is
-              ∙ number_behind h r.commit
-              ∙ ap (λ (c : List Change). with_changes c (number h n)) (may.commit_is ∙ ap (λ (x : RowMap). commit_of x r.script) (sym rows))
-              ∙ ap (with_changes (commit_of (number (history_of base all) n).rows r.script)) (sym at_n);
-          released = subst (λ (b : List BookEntry). r.front ≤ (history_of base b).acked) (joined before r between behind) (omega (arith, acked, never base end behind));
-        },
-        acked,
-      )
+      ∙ ap (λ (x : History). number x m) end_is ∙ goes.same m (omega (arith, le, high))) in
+      let released : r.front ≤ (history_of base all).acked =
+      subst (λ (b : List BookEntry). r.front ≤ (history_of base b).acked) (joined before r between behind) (omega (arith, acked, never base end behind)) in
+      let low_n : h.acked ≤ n = within base before (legal_before r.pid r.front r.tick r.script r.items r.commit (between ++ release r ∷ behind) base before legal) in
+      elim may.front_is [
+        | inl front_is ↦ (
+            let up : n ≤ r.front = omega (arith, front_is, count_of-with_commit h r.commit) in
+            let at_n : number (history_of base all) n ≡ number h n = kept n up ∙ number_before h r.commit in
+            let rows : (number (history_of base all) n).rows ≡ rows_of h = ap (λ (s : Standing). s.rows) at_n ∙ rows_at_last h in (
+              record {
+                script = r.script;
+                n = n;
+                query = query;
+                no_older = omega (arith, low, low_n);
+                reply_is = may.reply_is ∙ ap (λ (x : RowMap). items_of x r.script) (sym rows);
+                commit_is = kept r.front (omega arith)
+                    ∙ ap (number (with_commit h r.commit)) front_is
+                    ∙ number_behind h r.commit
+                    ∙ ap (λ (c : List Change). with_changes c (number h n)) (may.commit_is ∙ ap (λ (x : RowMap). commit_of x r.script) (sym rows))
+                    ∙ ap (with_changes (commit_of (number (history_of base all) n).rows r.script)) (sym at_n);
+                released = released;
+              },
+              acked,
+            ))
+        | inr early ↦ (
+            let at_n : number (history_of base all) r.front ≡ number h r.front = kept r.front (omega arith) ∙ number_within h r.commit r.front early.within in
+            let rows : (number (history_of base all) r.front).rows ≡ (number h r.front).rows = ap (λ (s : Standing). s.rows) at_n in (
+              record {
+                script = r.script;
+                n = r.front;
+                query = query;
+                no_older = omega (arith, low, early.acked);
+                reply_is = early.same ∙ ap (λ (x : RowMap). items_of x r.script) (sym rows);
+                commit_is = ap (λ (c : List Change). with_changes c (number (history_of base all) r.front))
+                    (sym (reads_commit_nothing (number (history_of base all) r.front).rows r.script early.reads));
+                released = released;
+              },
+              acked,
+            ))
+      ]
 
   -- ---- all turns
 

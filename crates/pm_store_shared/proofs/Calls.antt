@@ -2,8 +2,8 @@
 use Rattle.std.{proofs.{Common.{◌≡◌, ◌≢◌, ◌⊎◌, inl, inr, ℕ, ◌+◌, ◌-◌, ◌<◌, ◌≤◌, ◌==◌, ◌&&◌, Bool, true, false, cond, List, [], ◌∷◌, ◌++◌, length, Option, None, Some, refl, sym, ◌∙◌, ap, subst, arith, append-nil}, lemmas.{Bool.{Decides.nat_tests, eq-eqb}, List.Quantifiers.Any-push}}, specs.Prelude.{Result, Ok, Err, OnErr, IfOk, Any, nat_eq}}
 use Rattle.pm_query.specs.{pm_sql.declared.stmt.Stmt.Stmt, declared.{book.BookEntry.{BookEntry, TheVariants.{Answered, Attached, Detached}}, store.{Staged.Staged, StoreNo.{StoreNo, TheVariants.{Stale, Disk, Broken, Full, Redo, NoMemory}}}}, Book.{AnswersUpTo, generation_of, present, times_attached}, Calls.{PassView, EnterNotes, NotesFault, NotesLostAnswer, RunNotes, LeaveNotes, new_pass, newcomer, user_of, with_front}}
 use Rattle.atomic_table.specs.Seated.{TableId}
-use Rattle.pm_segment.specs.{declared.{pass.Pass.Pass, segment.Segment.Segment}, Moment.moment, Moves.Moves, Passes.{Admits, HasAnswer, view_of}}
-use Rattle.pm_store_shared.{specs.{declared.views.{Noted.Noted, Taken.Taken, Hand.Hand, View.{View, TheVariants.Worker}}, Behind.{Behind, Knows}, Grows.{Grew, NotesLeave, passes_entered}, GrowsLaws.entries_noted, Log.{AllOwn, Continues, noted_from}, Passes.{Among, live, renewed_pass, without_pass}, Quiet.AllQuiet, Rule.taken, Told.{HandMay, IsNothing, MayGive, Seated, Tells, TokenModel, TookFor, Turns, first_of, given_back, is_own_of, passes_of, past_of, resting, with_held, TellsHand}}, proofs.{Logs.{among_live, among-snoc, among_up_to, known_at, known_less, known_on, known_snoc, live-less, live-snoc, up_to-less, up_to-snoc}, Stores.{admits_known, answer_on, behind_moves, generation_on, knows_moves, present_on, quiet_own, quiet_times, times_on}}}
+use Rattle.pm_segment.specs.{declared.pass.Pass.Pass, Moment.alone, Passes.{Admits, HasAnswer, view_of}}
+use Rattle.pm_store_shared.{specs.{declared.{place.Place.Place, views.{Noted.Noted, Taken.Taken, Hand.Hand, Lent.Lent, View.{View, TheVariants.Worker}}}, Grows.{Grew, NotesLeave, passes_entered}, GrowsLaws.entries_noted, Log.{AllOwn, Continues, noted_from}, Passes.{Among, live, renewed_pass, without_pass}, Quiet.AllQuiet, Rule.taken, Stands.{Knows, Stands}, Told.{HandMay, MayGive, Seated, Tells, TokenModel, TookFor, Turns, first_of, given_back, is_own_of, passes_of, past_of, between, resting, token_of, with_held, TellsHand}}, proofs.{Logs.{among_live, among-snoc, among_up_to, known_at, known_less, known_on, known_snoc, live-less, live-snoc, up_to-less, up_to-snoc}, Moving.PlaceMoves, Stores.{admits_known, answer_on, generation_on, knows_moves, present_on, quiet_own, quiet_times, stands_in, times_on}, Unchanged.turns_none}}
 
 -- ---- what the calls note
 
@@ -63,24 +63,17 @@ turns_quiet log es before now ps quiet gen pid same in_ = record {
   fair = λ p. λ i. (times_on log es p ∙ quiet_times p (times_attached log p) es quiet) i + sym (live_renewed p (generation_of log) before now ps gen pid same in_) i;
 }
 
-turns_none : (log : List BookEntry) (ps : List Pass) → Turns log [] ps ps
-turns_none log ps = record {
-  same = ap generation_of (append-nil log);
-  known = λ a. a;
-  fair = λ p. ap (λ l. times_attached l p + live p (generation_of log) ps) (append-nil log);
-}
-
 -- ---- a store is given back after a call by which nobody comes or goes
 
-abbrev pub hand_holding : {S F : Type 0} → ℕ → F → List Noted → List Pass → Taken S → Hand S F
-hand_holding k first own ps t = record { number = k; first = first; own = own; passes = ps; past = t.log; held = Some t }
+abbrev pub hand_holding : {S F L : Type 0} → ℕ → F → List Noted → List Pass → Option L → Taken S → Hand S F L
+hand_holding k first own ps had t = record { number = k; first = first; own = own; passes = ps; past = t.log; held = Some t; lent = had }
 
-pub may_quiet : {D B : Type 0} {g h : _} (told : List BookEntry → Type 0) (k : ℕ) (first : D) (own : List Noted) (ps : List Pass) (log : List BookEntry) (x x' : Segment D B g h) (before now : Pass) (es : List BookEntry)
-    → TellsHand Behind Knows first ps (taken log x) → told es → AllQuiet es → Moves es (moment x) (moment x') → Among before ps → before.generation ≡ (moment x).generation → now.pid ≡ before.pid → now.generation ≡ before.generation
-    → Knows (log ++ es) x' now → HandMay Behind Knows told (renewed_pass before now ps) (hand_holding k first own ps (taken log x)) x'
+pub may_quiet : {D B : Type 0} {g h : _} {had has : Option (Lent D)} (told : List BookEntry → Type 0) (k : ℕ) (first : D) (own : List Noted) (ps : List Pass) (log : List BookEntry) (x x' : Place D B g h) (before now : Pass) (es : List BookEntry)
+    → TellsHand Stands Knows had first ps (taken log x) → told es → AllQuiet es → PlaceMoves had has es x x' → Among before ps → before.generation ≡ x.apart.generation → now.pid ≡ before.pid → now.generation ≡ before.generation
+    → Knows (log ++ es) x' now → HandMay Stands Knows told (renewed_pass before now ps) has (hand_holding k first own ps had (taken log x)) x'
 may_quiet told k first own ps log x x' before now es tells is_told quiet moves in_ gen pid same knows =
     let all_own = quiet_own es quiet in
-    let gen' : before.generation ≡ generation_of log = gen ∙ sym tells.0.generation in record {
+    let gen' : before.generation ≡ generation_of log = gen ∙ sym (stands_in first log x tells.0) in record {
       was = taken log x;
       added = es;
       held = refl;
@@ -88,29 +81,26 @@ may_quiet told k first own ps log x x' before now es tells is_told quiet moves i
       own = all_own;
       step = record {
         turns = turns_quiet log es before now ps quiet gen' pid same in_;
-        stands = λ f is. behind_moves f log es x x' all_own moves is;
-        others = λ p e known. knows_moves log es x x' p all_own moves known;
+        stands = λ f. moves.stands f log;
+        others = λ p e known. knows_moves log es x x' p all_own (moves.staged p.front) known;
         mine = known_snoc (Knows (log ++ es) x') (generation_of log) (without_pass before.pid before.generation ps) now
             (known_less (Knows (log ++ es) x') (generation_of log) before.pid before.generation ps
-            (known_on (Knows log x) (Knows (log ++ es) x') (generation_of log) ps (λ p e known. knows_moves log es x x' p all_own moves known) tells.1)) (λ e. knows);
+            (known_on (Knows log x) (Knows (log ++ es) x') (generation_of log) ps (λ p e known. knows_moves log es x x' p all_own (moves.staged p.front) known) tells.1)) (λ e. knows);
       };
     }
 
 -- ---- what a token shows then
 
-abbrev pub token_of : (S F : Type 0) → TableId → ℕ → Seated S F → TokenModel F
-token_of S F t n me = record { table = t; number = n; first = first_of me.0; own = is_own_of me.0; passes = passes_of me.0; past = past_of me.0 }
+module _ {S F L : Type 0} where
+  pub given_is : {past : List BookEntry} {had : Option L} (k : ℕ) (first : F) (own : List Noted) (ps ps' : List Pass) (t : Taken S) (es : List BookEntry) (has : Option L) (me me' me'' : Seated S F L) (c c' : List (ℕ × Option S)) → me ≡ between k first own ps past had → me' ≡ (with_held me.0 (Some t), c)
+      → me'' ≡ (given_back me'.0 es ps' has, c') → me''.0 ≡ Worker record { number = k; first = first; own = own ++ noted_from (length t.log) es; passes = ps'; past = t.log; held = None; lent = has }
+  given_is k first own ps ps' t es has me me' me'' c c' is was now =
+      ap (λ (m : Seated S F L). m.0) now ∙ ap (λ (m : Seated S F L). given_back m.0 es ps' has) was ∙ ap (λ (m : Seated S F L). given_back (with_held m.0 (Some t)) es ps' has) is
 
-module _ {S F : Type 0} where
-  pub given_is : {past : List BookEntry} (k : ℕ) (first : F) (own : List Noted) (ps ps' : List Pass) (t : Taken S) (es : List BookEntry) (me me' me'' : Seated S F) (c c' : List (ℕ × Option S)) → me ≡ resting k first own ps past → me' ≡ (with_held me.0 (Some t), c)
-      → me'' ≡ (given_back me'.0 es ps', c') → me''.0 ≡ Worker record { number = k; first = first; own = own ++ noted_from (length t.log) es; passes = ps'; past = t.log; held = None }
-  given_is k first own ps ps' t es me me' me'' c c' is was now =
-      ap (λ (m : Seated S F). m.0) now ∙ ap (λ (m : Seated S F). given_back m.0 es ps') was ∙ ap (λ (m : Seated S F). given_back (with_held m.0 (Some t)) es ps') is
-
-  pub grew_by : {past past' : List BookEntry} (id id' : TableId) (k : ℕ) (first : F) (own : List Noted) (ps ps' : List Pass) (n : ℕ) (es : List BookEntry) (me me'' : Seated S F) (old : TokenModel F) → token_of S F id k me ≡ old → id' ≡ id → me ≡ resting k first own ps past
-      → me''.0 ≡ Worker record { number = k; first = first; own = own ++ noted_from n es; passes = ps'; past = past'; held = None } → Continues past past' → Grew es old (token_of S F id' k me'')
+  pub grew_by : {past past' : List BookEntry} {had has : Option L} (id id' : TableId) (k : ℕ) (first : F) (own : List Noted) (ps ps' : List Pass) (n : ℕ) (es : List BookEntry) (me me'' : Seated S F L) (old : TokenModel F) → token_of id k me.0 ≡ old → id' ≡ id → me ≡ between k first own ps past had
+      → me''.0 ≡ Worker record { number = k; first = first; own = own ++ noted_from n es; passes = ps'; past = past'; held = None; lent = has } → Continues past past' → Grew es old (token_of id' k me''.0)
   grew_by {past} {past'} id id' k first own ps ps' n es me me'' old view_is same is now rises =
-      let old_is : old ≡ record { table = id; number = k; first = Some first; own = own; passes = ps; past = past } = sym view_is ∙ ap (λ (m : Seated S F). token_of S F id k m) is in record {
+      let old_is : old ≡ record { table = id; number = k; first = Some first; own = own; passes = ps; past = past } = sym view_is ∙ ap (λ (m : Seated S F L). token_of id k m.0) is in record {
         table = same ∙ sym (ap (λ (t : TokenModel F). t.table) old_is);
         number = sym (ap (λ (t : TokenModel F). t.number) old_is);
         first = ap first_of now ∙ sym (ap (λ (t : TokenModel F). t.first) old_is);
@@ -120,54 +110,54 @@ module _ {S F : Type 0} where
         past = subst (λ l. Continues l (past_of me''.0)) (sym (ap (λ (t : TokenModel F). t.past) old_is)) (subst (Continues past) (sym (ap past_of now)) rises);
       }
 
-  pub passes_are : {past : List BookEntry} (k : ℕ) (first : F) (own : List Noted) (ps' : List Pass) (me'' : Seated S F) → me''.0 ≡ Worker record { number = k; first = first; own = own; passes = ps'; past = past; held = None } → passes_of me''.0 ≡ ps'
+  pub passes_are : {past : List BookEntry} {has : Option L} (k : ℕ) (first : F) (own : List Noted) (ps' : List Pass) (me'' : Seated S F L) → me''.0 ≡ Worker record { number = k; first = first; own = own; passes = ps'; past = past; held = None; lent = has } → passes_of me''.0 ≡ ps'
   passes_are k first own ps' me'' now = ap passes_of now
 
   -- a store that was given back as it was taken
-  pub gave_unchanged : {past : List BookEntry} (k : ℕ) (first : F) (own : List Noted) (ps : List Pass) (t : Taken S) (es : List BookEntry) (me me' me'' : Seated S F) (c : List (ℕ × Option S)) → me ≡ resting k first own ps past → me' ≡ (with_held me.0 (Some t), c)
-      → es ≡ [] → me'' ≡ (given_back me'.0 es (passes_of me'.0), []) → me'' ≡ (given_back (with_held me.0 (Some t)) [] (passes_of me.0), [])
+  pub gave_unchanged : {past : List BookEntry} (k : ℕ) (first : F) (own : List Noted) (ps : List Pass) (t : Taken S) (es : List BookEntry) (me me' me'' : Seated S F L) (c : List (ℕ × Option S)) → me ≡ resting k first own ps past → me' ≡ (with_held me.0 (Some t), c)
+      → es ≡ [] → me'' ≡ (given_back me'.0 es (passes_of me'.0) None, []) → me'' ≡ (given_back (with_held me.0 (Some t)) [] (passes_of me.0) None, [])
   gave_unchanged k first own ps t es me me' me'' c is was none now =
-      let same : passes_of (with_held me.0 (Some t)) ≡ passes_of me.0 = ap (λ (m : Seated S F). passes_of (with_held m.0 (Some t))) is ∙ sym (ap (λ (m : Seated S F). passes_of m.0) is) in
-      now ∙ (λ i. (given_back me'.0 (none i) (passes_of me'.0), [])) ∙ ap (λ (m : Seated S F). (given_back m.0 [] (passes_of m.0), [])) was ∙ (λ i. (given_back (with_held me.0 (Some t)) [] (same i), []))
+      let same : passes_of (with_held me.0 (Some t)) ≡ passes_of me.0 = ap (λ (m : Seated S F L). passes_of (with_held m.0 (Some t))) is ∙ sym (ap (λ (m : Seated S F L). passes_of m.0) is) in
+      now ∙ (λ i. (given_back me'.0 (none i) (passes_of me'.0) None, [])) ∙ ap (λ (m : Seated S F L). (given_back m.0 [] (passes_of m.0) None, [])) was ∙ (λ i. (given_back (with_held me.0 (Some t)) [] (same i) None, []))
 
-  pub past_is : {past : List BookEntry} (k : ℕ) (first : F) (own : List Noted) (ps' : List Pass) (me'' : Seated S F) → me''.0 ≡ Worker record { number = k; first = first; own = own; passes = ps'; past = past; held = None } → past_of me''.0 ≡ past
+  pub past_is : {past : List BookEntry} {has : Option L} (k : ℕ) (first : F) (own : List Noted) (ps' : List Pass) (me'' : Seated S F L) → me''.0 ≡ Worker record { number = k; first = first; own = own; passes = ps'; past = past; held = None; lent = has } → past_of me''.0 ≡ past
   past_is k first own ps' me'' now = ap past_of now
 
 -- ---- at a seat that is known by equations
 -- what a token finds begins with what it found
-pub past_goes_on : {D B : Type 0} {g h : _} {past : List BookEntry} (k : ℕ) (first : D) (own : List Noted) (ps : List Pass) (log : List BookEntry) (x : Segment D B g h) (me : Seated (Segment D B g h) D)
-    → me ≡ resting k first own ps past → Tells Behind Knows me.0 (taken log x) → Continues past log
-past_goes_on {D} {B} {g} {h} k first own ps log x me is tells = (subst (λ (m : Seated (Segment D B g h) D). Tells Behind Knows m.0 (taken log x)) is tells).1
+pub past_goes_on : {D B : Type 0} {g h : _} {past : List BookEntry} {had : Option (Lent D)} (k : ℕ) (first : D) (own : List Noted) (ps : List Pass) (log : List BookEntry) (x : Place D B g h) (me : Seated (Place D B g h) D (Lent D))
+    → me ≡ between k first own ps past had → Tells Stands Knows me.0 (taken log x) → Continues past log
+past_goes_on {D} {B} {g} {h} k first own ps log x me is tells = (subst (λ (m : Seated (Place D B g h) D (Lent D)). Tells Stands Knows m.0 (taken log x)) is tells).1
 
 -- the generation that it meets is the store's, before a call and after it
-pub met_there : {D B : Type 0} {g h : _} {past : List BookEntry} (k : ℕ) (first : D) (own : List Noted) (ps : List Pass) (log : List BookEntry) (x : Segment D B g h) (me : Seated (Segment D B g h) D)
-    → me ≡ resting k first own ps past → Tells Behind Knows me.0 (taken log x) → generation_of log ≡ (moment x).generation
-met_there {D} {B} {g} {h} k first own ps log x me is tells = (subst (λ (m : Seated (Segment D B g h) D). Tells Behind Knows m.0 (taken log x)) is tells).0.0.generation
+pub met_there : {D B : Type 0} {g h : _} {past : List BookEntry} {had : Option (Lent D)} (k : ℕ) (first : D) (own : List Noted) (ps : List Pass) (log : List BookEntry) (x : Place D B g h) (me : Seated (Place D B g h) D (Lent D))
+    → me ≡ between k first own ps past had → Tells Stands Knows me.0 (taken log x) → generation_of log ≡ x.apart.generation
+met_there {D} {B} {g} {h} k first own ps log x me is tells = stands_in first log x (subst (λ (m : Seated (Place D B g h) D (Lent D)). Tells Stands Knows m.0 (taken log x)) is tells).0.0
 
 -- a pass of another generation than the one that is met is of an earlier one
-pub met_later : {D B : Type 0} {g h : _} {past : List BookEntry} (k : ℕ) (first : D) (own : List Noted) (ps : List Pass) (log : List BookEntry) (x : Segment D B g h) (me : Seated (Segment D B g h) D) (p : Pass)
-    → me ≡ resting k first own ps past → Tells Behind Knows me.0 (taken log x) → Among p ps → p.generation ≢ (moment x).generation → p.generation < generation_of log
+pub met_later : {D B : Type 0} {g h : _} {past : List BookEntry} {had : Option (Lent D)} (k : ℕ) (first : D) (own : List Noted) (ps : List Pass) (log : List BookEntry) (x : Place D B g h) (me : Seated (Place D B g h) D (Lent D)) (p : Pass)
+    → me ≡ between k first own ps past had → Tells Stands Knows me.0 (taken log x) → Among p ps → p.generation ≢ x.apart.generation → p.generation < generation_of log
 met_later {D} {B} {g} {h} k first own ps log x me p is tells in_ other =
-    let tells' = (subst (λ (m : Seated (Segment D B g h) D). Tells Behind Knows m.0 (taken log x)) is tells).0 in
+    let tells' = (subst (λ (m : Seated (Place D B g h) D (Lent D)). Tells Stands Knows m.0 (taken log x)) is tells).0 in
     let within = among_up_to (generation_of log) p ps tells'.3 in_ in
-    let same = tells'.0.generation in
+    let same = stands_in first log x tells'.0 in
     omega (arith, within, same, other)
 
 -- who found the store in another generation is told it, and has met it
-pub stale_here : {D B : Type 0} {g h : _} {past : List BookEntry} (k : ℕ) (first : D) (own : List Noted) (ps ps' : List Pass) (log es : List BookEntry) (x : Segment D B g h) (me me' me'' : Seated (Segment D B g h) D)
-    (c c' : List (ℕ × Option (Segment D B g h))) (p : Pass) (found : ℕ) → me ≡ resting k first own ps past → me' ≡ (with_held me.0 (Some (taken log x)), c) → me'' ≡ (given_back me'.0 es ps', c')
-    → Tells Behind Knows me.0 (taken log x) → Among p ps → p.generation ≢ (moment x).generation → found ≡ (moment x).generation → (found ≡ generation_of (past_of me''.0)) × (p.generation < generation_of (past_of me''.0))
-stale_here k first own ps ps' log es x me me' me'' c c' p found is was now tells in_ other found_is =
-    let met = ap generation_of (past_is k first _ ps' me'' (given_is k first own ps ps' (taken log x) es me me' me'' c c' is was now)) in
+pub stale_here : {D B : Type 0} {g h : _} {past : List BookEntry} {had : Option (Lent D)} (k : ℕ) (first : D) (own : List Noted) (ps ps' : List Pass) (log es : List BookEntry) (has : Option (Lent D)) (x : Place D B g h) (me me' me'' : Seated (Place D B g h) D (Lent D))
+    (c c' : List (ℕ × Option (Place D B g h))) (p : Pass) (found : ℕ) → me ≡ between k first own ps past had → me' ≡ (with_held me.0 (Some (taken log x)), c) → me'' ≡ (given_back me'.0 es ps' has, c')
+    → Tells Stands Knows me.0 (taken log x) → Among p ps → p.generation ≢ x.apart.generation → found ≡ x.apart.generation → (found ≡ generation_of (past_of me''.0)) × (p.generation < generation_of (past_of me''.0))
+stale_here k first own ps ps' log es has x me me' me'' c c' p found is was now tells in_ other found_is =
+    let met = ap generation_of (past_is k first _ ps' me'' (given_is k first own ps ps' (taken log x) es has me me' me'' c c' is was now)) in
     let there = met_there k first own ps log x me is tells in
     (found_is ∙ sym there ∙ sym met, subst (λ (n : ℕ). p.generation < n) (sym met) (met_later k first own ps log x me p is tells in_ other))
 
 -- the generation that a token shows after a call is the store's
-pub met_behind : {D B : Type 0} {g h : _} {past : List BookEntry} (k : ℕ) (first : D) (own : List Noted) (ps ps' : List Pass) (log es : List BookEntry) (x x' : Segment D B g h) (me me' me'' : Seated (Segment D B g h) D)
-    (c c' : List (ℕ × Option (Segment D B g h))) → me ≡ resting k first own ps past → me' ≡ (with_held me.0 (Some (taken log x)), c) → me'' ≡ (given_back me'.0 es ps', c')
-    → Tells Behind Knows me.0 (taken log x) → (moment x').generation ≡ (moment x).generation → (moment x').generation ≡ generation_of (past_of me''.0)
-met_behind k first own ps ps' log es x x' me me' me'' c c' is was now tells same =
-    same ∙ sym (met_there k first own ps log x me is tells) ∙ sym (ap generation_of (past_is k first _ ps' me'' (given_is k first own ps ps' (taken log x) es me me' me'' c c' is was now)))
+pub met_behind : {D B : Type 0} {g h : _} {past : List BookEntry} {had : Option (Lent D)} (k : ℕ) (first : D) (own : List Noted) (ps ps' : List Pass) (log es : List BookEntry) (has : Option (Lent D)) (x x' : Place D B g h) (me me' me'' : Seated (Place D B g h) D (Lent D))
+    (c c' : List (ℕ × Option (Place D B g h))) → me ≡ between k first own ps past had → me' ≡ (with_held me.0 (Some (taken log x)), c) → me'' ≡ (given_back me'.0 es ps' has, c')
+    → Tells Stands Knows me.0 (taken log x) → x'.apart.generation ≡ x.apart.generation → x'.apart.generation ≡ generation_of (past_of me''.0)
+met_behind k first own ps ps' log es has x x' me me' me'' c c' is was now tells same =
+    same ∙ sym (met_there k first own ps log x me is tells) ∙ sym (ap generation_of (past_is k first _ ps' me'' (given_is k first own ps ps' (taken log x) es has me me' me'' c c' is was now)))
 
 -- a call with a stale pass notes nothing, and leaves the token's passes
 pub record IsStale {F : Type 0} (pass : Pass) (refusal : StoreNo) (old now : TokenModel F) : Type 0 where
@@ -182,20 +172,20 @@ pub record IsKept {F : Type 0} (log : List BookEntry) (old now : TokenModel F) :
   pub passes : now.passes ≡ old.passes
   pub past : now.past ≡ log
 
-pub kept_told : {D B : Type 0} {g h : _} {past : List BookEntry} (k : ℕ) (first : D) (own : List Noted) (ps : List Pass) (log : List BookEntry) (x : Segment D B g h) (id id' : TableId) (me me' : Seated (Segment D B g h) D) (old : TokenModel D)
-    → token_of (Segment D B g h) D id k me ≡ old → id' ≡ id → me ≡ resting k first own ps past → me' ≡ (given_back (with_held me.0 (Some (taken log x))) [] (passes_of me.0), []) → Tells Behind Knows me.0 (taken log x)
-    → IsKept log old (token_of (Segment D B g h) D id' k me')
+pub kept_told : {D B : Type 0} {g h : _} {past : List BookEntry} (k : ℕ) (first : D) (own : List Noted) (ps : List Pass) (log : List BookEntry) (x : Place D B g h) (id id' : TableId) (me me' : Seated (Place D B g h) D (Lent D)) (old : TokenModel D)
+    → token_of id k me.0 ≡ old → id' ≡ id → me ≡ resting k first own ps past → me' ≡ (given_back (with_held me.0 (Some (taken log x))) [] (passes_of me.0) None, []) → Tells Stands Knows me.0 (taken log x)
+    → IsKept log old (token_of id' k me'.0)
 kept_told {D} {B} {g} {h} k first own ps log x id id' me me' old view same is was tells =
-    let held : Seated (Segment D B g h) D = (with_held me.0 (Some (taken log x)), (0, None) ∷ []) in
-    let given = given_is k first own ps (passes_of me.0) (taken log x) [] me held me' ((0, None) ∷ []) [] is refl was in
+    let held : Seated (Place D B g h) D (Lent D) = (with_held me.0 (Some (taken log x)), (0, None) ∷ []) in
+    let given = given_is k first own ps (passes_of me.0) (taken log x) [] None me held me' ((0, None) ∷ []) [] is refl was in
     record {
       grew = grew_by id id' k first own ps (passes_of me.0) (length log) [] me me' old view same is given (past_goes_on k first own ps log x me is tells);
       passes = passes_are k first (own ++ noted_from (length log) []) (passes_of me.0) me' given ∙ ap (λ (t : TokenModel D). t.passes) view;
       past = past_is k first (own ++ noted_from (length log) []) (passes_of me.0) me' given;
     }
 
-pub stale_told : {D B : Type 0} {g h : _} {past : List BookEntry} (k : ℕ) (first : D) (own : List Noted) (ps : List Pass) (id id' : TableId) (me me' : Seated (Segment D B g h) D) (old : TokenModel D) (pass : Pass) (refusal : StoreNo)
-    → token_of (Segment D B g h) D id k me ≡ old → id' ≡ id → me ≡ resting k first own ps past → Among pass ps → TookFor Behind Knows (λ x. (moment x).generation) pass me (Err refusal) me' → IsStale pass refusal old (token_of (Segment D B g h) D id' k me')
+pub stale_told : {D B : Type 0} {g h : _} {past : List BookEntry} (k : ℕ) (first : D) (own : List Noted) (ps : List Pass) (id id' : TableId) (me me' : Seated (Place D B g h) D (Lent D)) (old : TokenModel D) (pass : Pass) (refusal : StoreNo)
+    → token_of id k me.0 ≡ old → id' ≡ id → me ≡ resting k first own ps past → Among pass ps → TookFor Stands Knows (λ x. x.apart.generation) pass me (Err refusal) me' → IsStale pass refusal old (token_of id' k me'.0)
 stale_told k first own ps id id' me me' old pass refusal view same is in_ (log, x, was, tells, other, refused) =
     let kept = kept_told k first own ps log x id id' me me' old view same is was tells in
     record {
@@ -212,71 +202,47 @@ pub record IsCalled {F : Type 0} (es log : List BookEntry) (pass : Pass) (genera
   pub met : generation ≡ generation_of now.past
   pub past : now.past ≡ log
 
-pub called : {D B : Type 0} {g h : _} {past : List BookEntry} (k : ℕ) (first : D) (own : List Noted) (ps : List Pass) (log es : List BookEntry) (x x' : Segment D B g h) (id id' : TableId) (me me' me'' : Seated (Segment D B g h) D)
-    (c c' : List (ℕ × Option (Segment D B g h))) (before now : Pass) (old : TokenModel D) → token_of (Segment D B g h) D id k me ≡ old → id' ≡ id → me ≡ resting k first own ps past → me' ≡ (with_held me.0 (Some (taken log x)), c)
-    → me'' ≡ (given_back me'.0 es (renewed_pass before now (passes_of me'.0)), c') → Tells Behind Knows me.0 (taken log x) → (moment x').generation ≡ (moment x).generation
-    → IsCalled es log now (moment x').generation old (token_of (Segment D B g h) D id' k me'')
-called {D} {B} {g} {h} k first own ps log es x x' id id' me me' me'' c c' before now old view same is was then tells still =
+pub called : {D B : Type 0} {g h : _} {past : List BookEntry} {had : Option (Lent D)} (k : ℕ) (first : D) (own : List Noted) (ps : List Pass) (log es : List BookEntry) (has : Option (Lent D)) (x x' : Place D B g h) (id id' : TableId) (me me' me'' : Seated (Place D B g h) D (Lent D))
+    (c c' : List (ℕ × Option (Place D B g h))) (before now : Pass) (old : TokenModel D) → token_of id k me.0 ≡ old → id' ≡ id → me ≡ between k first own ps past had → me' ≡ (with_held me.0 (Some (taken log x)), c)
+    → me'' ≡ (given_back me'.0 es (renewed_pass before now (passes_of me'.0)) has, c') → Tells Stands Knows me.0 (taken log x) → x'.apart.generation ≡ x.apart.generation
+    → IsCalled es log now x'.apart.generation old (token_of id' k me''.0)
+called {D} {B} {g} {h} k first own ps log es has x x' id id' me me' me'' c c' before now old view same is was then tells still =
     let ps' = renewed_pass before now (passes_of me'.0) in
-    let given = given_is k first own ps ps' (taken log x) es me me' me'' c c' is was then in
+    let given = given_is k first own ps ps' (taken log x) es has me me' me'' c c' is was then in
     record {
       grew = grew_by id id' k first own ps ps' (length log) es me me'' old view same is given (past_goes_on k first own ps log x me is tells);
       among = subst (Among now) (sym (passes_are k first (own ++ noted_from (length log) es) ps' me'' given)) (among-snoc now (without_pass before.pid before.generation (passes_of me'.0)));
-      met = met_behind k first own ps ps' log es x x' me me' me'' c c' is was then tells still;
+      met = met_behind k first own ps ps' log es has x x' me me' me'' c c' is was then tells still;
       past = past_is k first (own ++ noted_from (length log) es) ps' me'' given;
     }
 
 -- the seat rests again
-pub rests_again : {S F : Type 0} {past : List BookEntry} (k : ℕ) (first : F) (own : List Noted) (ps ps' : List Pass) (t : Taken S) (es : List BookEntry) (me me' me'' : Seated S F) (c : List (ℕ × Option S)) → me ≡ resting k first own ps past → me' ≡ (with_held me.0 (Some t), c)
-    → me'' ≡ (given_back me'.0 es ps', []) → me'' ≡ resting k first (is_own_of me''.0) (passes_of me''.0) (past_of me''.0)
-rests_again {S} {F} k first own ps ps' t es me me' me'' c is was now =
-    let rests : me'' ≡ resting k first (own ++ noted_from (length t.log) es) ps' t.log =
-    now ∙ ap (λ (m : Seated S F). (given_back m.0 es ps', [])) was ∙ ap (λ (m : Seated S F). (given_back (with_held m.0 (Some t)) es ps', [])) is in
-    rests ∙ ap (λ (m : Seated S F). resting k first (is_own_of m.0) (passes_of m.0) (past_of m.0)) (sym rests)
+pub rests_again : {S F L : Type 0} {past : List BookEntry} {had : Option L} (k : ℕ) (first : F) (own : List Noted) (ps ps' : List Pass) (t : Taken S) (es : List BookEntry) (has : Option L) (me me' me'' : Seated S F L) (c : List (ℕ × Option S)) → me ≡ between k first own ps past had → me' ≡ (with_held me.0 (Some t), c)
+    → me'' ≡ (given_back me'.0 es ps' has, []) → me'' ≡ between k first (is_own_of me''.0) (passes_of me''.0) (past_of me''.0) has
+rests_again {S} {F} {L} k first own ps ps' t es has me me' me'' c is was now =
+    let rests : me'' ≡ between k first (own ++ noted_from (length t.log) es) ps' t.log has =
+    now ∙ ap (λ (m : Seated S F L). (given_back m.0 es ps' has, [])) was ∙ ap (λ (m : Seated S F L). (given_back (with_held m.0 (Some t)) es ps' has, [])) is in
+    rests ∙ ap (λ (m : Seated S F L). between k first (is_own_of m.0) (passes_of m.0) (past_of m.0) has) (sym rests)
 
 -- ---- a call of a pass that is admitted
 
-pub token_admits : {D B : Type 0} {g h : _} {past : List BookEntry} (k : ℕ) (first : D) (own : List Noted) (ps : List Pass) (log : List BookEntry) (x : Segment D B g h) (me : Seated (Segment D B g h) D) (p : Pass)
-    → me ≡ resting k first own ps past → Tells Behind Knows me.0 (taken log x) → Among p ps → p.generation ≡ (moment x).generation → Admits p (moment x)
+pub token_admits : {D B : Type 0} {g h : _} {past : List BookEntry} {had : Option (Lent D)} (k : ℕ) (first : D) (own : List Noted) (ps : List Pass) (log : List BookEntry) (x : Place D B g h) (me : Seated (Place D B g h) D (Lent D)) (p : Pass)
+    → me ≡ between k first own ps past had → Tells Stands Knows me.0 (taken log x) → Among p ps → p.generation ≡ x.apart.generation → Admits p (alone x.apart)
 token_admits {D} {B} {g} {h} k first own ps log x me p is tells in_ gen =
-    let tells' = (subst (λ (m : Seated (Segment D B g h) D). Tells Behind Knows m.0 (taken log x)) is tells).0 in
-    let gen' : p.generation ≡ generation_of log = gen ∙ sym tells'.0.generation in
+    let tells' = (subst (λ (m : Seated (Place D B g h) D (Lent D)). Tells Stands Knows m.0 (taken log x)) is tells).0 in
+    let gen' : p.generation ≡ generation_of log = gen ∙ sym (stands_in first log x tells'.0) in
     let some : 0 < live p.pid (generation_of log) ps = subst (λ z. 0 < live p.pid z ps) gen' (among_live p ps in_) in
     let few = tells'.2 p.pid in
     admits_known first log x p tells'.0 (known_at (Knows log x) (generation_of log) p ps tells'.1 in_ gen') gen (omega (arith, some, few))
 
-pub token_may_quiet : {D B : Type 0} {g h : _} {past : List BookEntry} (told : List BookEntry → Type 0) (k : ℕ) (first : D) (own : List Noted) (ps : List Pass) (log : List BookEntry) (x x' : Segment D B g h) (before now : Pass) (es : List BookEntry)
-    (me me' : Seated (Segment D B g h) D) (c : List (ℕ × Option (Segment D B g h))) → me ≡ resting k first own ps past → me' ≡ (with_held me.0 (Some (taken log x)), c) → Tells Behind Knows me.0 (taken log x)
-    → told es → AllQuiet es → Moves es (moment x) (moment x') → Among before ps → before.generation ≡ (moment x).generation → now.pid ≡ before.pid → now.generation ≡ before.generation → Knows (log ++ es) x' now
-    → MayGive Behind Knows told (renewed_pass before now (passes_of me'.0)) me'.0 x'
-token_may_quiet {D} {B} {g} {h} told k first own ps log x x' before now es me me' c is was tells is_told quiet moves in_ gen pid same knows =
-    let held : me'.0 ≡ Worker (hand_holding k first own ps (taken log x)) = ap (λ (m : Seated (Segment D B g h) D). m.0) was ∙ ap (λ (m : Seated (Segment D B g h) D). with_held m.0 (Some (taken log x))) is in
-    let tells' = (subst (λ (m : Seated (Segment D B g h) D). Tells Behind Knows m.0 (taken log x)) is tells).0 in
-    subst (λ (v : View (Segment D B g h) D). MayGive Behind Knows told (renewed_pass before now (passes_of v)) v x') (sym held) (may_quiet told k first own ps log x x' before now es tells' is_told quiet moves in_ gen pid same knows)
-
-may_none : {D B : Type 0} {g h : _} (k : ℕ) (first : D) (own : List Noted) (ps : List Pass) (log : List BookEntry) (x : Segment D B g h) → TellsHand Behind Knows first ps (taken log x)
-    → HandMay Behind Knows IsNothing ps (hand_holding k first own ps (taken log x)) x
-may_none k first own ps log x tells = record {
-  was = taken log x;
-  added = [];
-  held = refl;
-  is_told = refl;
-  own = tt;
-  step = record {
-    turns = turns_none log ps;
-    stands = λ f is. subst (λ l. Behind f l x) (sym (append-nil log)) is;
-    others = λ p e known. subst (λ l. Knows l x p) (sym (append-nil log)) known;
-    mine = known_on (Knows log x) (Knows (log ++ []) x) (generation_of log) ps (λ p e known. subst (λ l. Knows l x p) (sym (append-nil log)) known) tells.1;
-  };
-}
-
-pub token_may_none : {D B : Type 0} {g h : _} {past : List BookEntry} (k : ℕ) (first : D) (own : List Noted) (ps : List Pass) (log : List BookEntry) (x : Segment D B g h)
-    (me me' : Seated (Segment D B g h) D) (c : List (ℕ × Option (Segment D B g h))) → me ≡ resting k first own ps past → me' ≡ (with_held me.0 (Some (taken log x)), c) → Tells Behind Knows me.0 (taken log x)
-    → MayGive Behind Knows IsNothing (passes_of me'.0) me'.0 x
-token_may_none {D} {B} {g} {h} k first own ps log x me me' c is was tells =
-    let held : me'.0 ≡ Worker (hand_holding k first own ps (taken log x)) = ap (λ (m : Seated (Segment D B g h) D). m.0) was ∙ ap (λ (m : Seated (Segment D B g h) D). with_held m.0 (Some (taken log x))) is in
-    let tells' = (subst (λ (m : Seated (Segment D B g h) D). Tells Behind Knows m.0 (taken log x)) is tells).0 in
-    subst (λ (v : View (Segment D B g h) D). MayGive Behind Knows IsNothing (passes_of v) v x) (sym held) (may_none k first own ps log x tells')
+pub token_may_quiet : {D B : Type 0} {g h : _} {past : List BookEntry} {had has : Option (Lent D)} (told : List BookEntry → Type 0) (k : ℕ) (first : D) (own : List Noted) (ps : List Pass) (log : List BookEntry) (x x' : Place D B g h) (before now : Pass) (es : List BookEntry)
+    (me me' : Seated (Place D B g h) D (Lent D)) (c : List (ℕ × Option (Place D B g h))) → me ≡ between k first own ps past had → me' ≡ (with_held me.0 (Some (taken log x)), c) → Tells Stands Knows me.0 (taken log x)
+    → told es → AllQuiet es → PlaceMoves had has es x x' → Among before ps → before.generation ≡ x.apart.generation → now.pid ≡ before.pid → now.generation ≡ before.generation → Knows (log ++ es) x' now
+    → MayGive Stands Knows told (renewed_pass before now (passes_of me'.0)) has me'.0 x'
+token_may_quiet {D} {B} {g} {h} {had = had} {has = has} told k first own ps log x x' before now es me me' c is was tells is_told quiet moves in_ gen pid same knows =
+    let held : me'.0 ≡ Worker (hand_holding k first own ps had (taken log x)) = ap (λ (m : Seated (Place D B g h) D (Lent D)). m.0) was ∙ ap (λ (m : Seated (Place D B g h) D (Lent D)). with_held m.0 (Some (taken log x))) is in
+    let tells' = (subst (λ (m : Seated (Place D B g h) D (Lent D)). Tells Stands Knows m.0 (taken log x)) is tells).0 in
+    subst (λ (v : View (Place D B g h) D (Lent D)). MayGive Stands Knows told (renewed_pass before now (passes_of v)) has v x') (sym held) (may_quiet told k first own ps log x x' before now es tells' is_told quiet moves in_ gen pid same knows)
 
 -- ---- a script that was run
 
@@ -299,12 +265,12 @@ run_answer (Err refusal) g script log es before now notes view has =
     let own = quiet_own es (run_quiet (view_of before) g script (Err refusal) es notes) in
     subst (λ (v : PassView). HasAnswer v.pid v.front (log ++ es)) (sym view.1) (answer_on before.pid before.front log es own has)
 
-pub token_knows_run : {D B : Type 0} {g h : _} {past : List BookEntry} (r : Result Staged StoreNo) (s : Option ℕ) (script : List Stmt) (k : ℕ) (first : D) (own : List Noted) (ps : List Pass) (log es : List BookEntry) (x x' : Segment D B g h) (me : Seated (Segment D B g h) D) (before now : Pass)
-    → me ≡ resting k first own ps past → Tells Behind Knows me.0 (taken log x) → Among before ps → before.generation ≡ (moment x).generation
-    → RunNotes (user_of s (view_of before)) script r es → RunView r before now → Admits now (moment x') → Knows (log ++ es) x' now
+pub token_knows_run : {D B : Type 0} {g h : _} {past : List BookEntry} (r : Result Staged StoreNo) (s : Option ℕ) (script : List Stmt) (k : ℕ) (first : D) (own : List Noted) (ps : List Pass) (log es : List BookEntry) (x x' : Place D B g h) (me : Seated (Place D B g h) D (Lent D)) (before now : Pass)
+    → me ≡ resting k first own ps past → Tells Stands Knows me.0 (taken log x) → Among before ps → before.generation ≡ x.apart.generation
+    → RunNotes (user_of s (view_of before)) script r es → RunView r before now → Admits now (alone x'.apart) → Knows (log ++ es) x' now
 token_knows_run {D} {B} {g} {h} r s script k first own ps log es x x' me before now is tells in_ gen notes view admits =
-    let tells' = (subst (λ (m : Seated (Segment D B g h) D). Tells Behind Knows m.0 (taken log x)) is tells).0 in
-    let gen' : before.generation ≡ generation_of log = gen ∙ sym tells'.0.generation in
+    let tells' = (subst (λ (m : Seated (Place D B g h) D (Lent D)). Tells Stands Knows m.0 (taken log x)) is tells).0 in
+    let gen' : before.generation ≡ generation_of log = gen ∙ sym (stands_in first log x tells'.0) in
     let known = known_at (Knows log x) (generation_of log) before ps tells'.1 in_ gen' in
     (run_answer r s script log es before now notes view known.0, admits.staged)
 
@@ -329,16 +295,28 @@ turns_enter log pass ps gen = record {
       omega (arith, a, b);
 }
 
-may_enter : {D B : Type 0} {g h : _} (k : ℕ) (first : D) (own : List Noted) (ps : List Pass) (log : List BookEntry) (x x' : Segment D B g h) (r : Result Pass StoreNo) (pid generation : ℕ) (es : List BookEntry)
-    → TellsHand Behind Knows first ps (taken log x) → EnterNotes (newcomer (Some (moment x).generation) pid generation) r es → Moves es (moment x) (moment x')
-    → IfOk r (λ pass. Admits pass (moment x')) → IfOk r (λ pass. view_of pass ≡ new_pass pid generation)
-    → HandMay Behind Knows (EnterNotes (newcomer None pid generation) r) (passes_entered r ps) (hand_holding k first own ps (taken log x)) x'
-may_enter {D} {B} {g} {h} k first own ps log x x' (Ok pass) pid generation es tells notes moves admits view =
+enter_nothing : (stamp : Option ℕ) (pid generation : ℕ) (why : StoreNo) (es : List BookEntry) → EnterNotes {P = Pass} (newcomer stamp pid generation) (Err why) es → es ≡ []
+enter_nothing stamp pid generation (Stale mine found) es notes = notes.1
+enter_nothing stamp pid generation Disk es notes = absurd notes
+enter_nothing stamp pid generation (Broken since) es notes = absurd notes
+enter_nothing stamp pid generation (Full need room) es notes = absurd notes
+enter_nothing stamp pid generation (Redo fault) es notes = absurd notes
+enter_nothing stamp pid generation NoMemory es notes = notes
+
+pub enter_own : (stamp : Option ℕ) (pid generation : ℕ) (r : Result Pass StoreNo) (es : List BookEntry) → EnterNotes (newcomer stamp pid generation) r es → AllOwn es
+enter_own stamp pid generation (Ok pass) es notes = subst AllOwn (sym notes) (refl, tt)
+enter_own stamp pid generation (Err why) es notes = subst AllOwn (sym (enter_nothing stamp pid generation why es notes)) tt
+
+may_enter : {D B : Type 0} {g h : _} (k : ℕ) (first : D) (own : List Noted) (ps : List Pass) (log : List BookEntry) (x x' : Place D B g h) (r : Result Pass StoreNo) (pid generation : ℕ) (es : List BookEntry)
+    → TellsHand Stands Knows None first ps (taken log x) → EnterNotes (newcomer (Some x.apart.generation) pid generation) r es → PlaceMoves None None es x x'
+    → IfOk r (λ pass. Admits pass (alone x'.apart)) → IfOk r (λ pass. view_of pass ≡ new_pass pid generation)
+    → HandMay Stands Knows (EnterNotes (newcomer None pid generation) r) (passes_entered r ps) None (hand_holding k first own ps None (taken log x)) x'
+may_enter k first own ps log x x' (Ok pass) pid generation es tells notes moves admits view =
     let es_is : es ≡ Attached pid generation ∷ [] = notes in
     let p_is : pass.pid ≡ pid = ap (λ (v : PassView). v.pid) view in
     let g_is : pass.generation ≡ generation = ap (λ (v : PassView). v.generation) view in
     let f_is : pass.front ≡ None = ap (λ (v : PassView). v.front) view in
-    let gen : pass.generation ≡ generation_of log = admits.generation_is ∙ moves.generation ∙ sym tells.0.generation in
+    let gen : pass.generation ≡ generation_of log = admits.generation_is ∙ moves.generation ∙ sym (stands_in first log x tells.0) in
     let all_own : AllOwn es = subst AllOwn (sym es_is) (refl, tt) in record {
       was = taken log x;
       added = es;
@@ -347,46 +325,38 @@ may_enter {D} {B} {g} {h} k first own ps log x x' (Ok pass) pid generation es te
       own = all_own;
       step = record {
         turns = subst (λ (l : List BookEntry). Turns log l ps (ps ++ pass ∷ [])) ((λ i. Attached (p_is i) (g_is i) ∷ []) ∙ sym es_is) (turns_enter log pass ps gen);
-        stands = λ f is. behind_moves f log es x x' all_own moves is;
-        others = λ p e known. knows_moves log es x x' p all_own moves known;
+        stands = λ f. moves.stands f log;
+        others = λ p e known. knows_moves log es x x' p all_own (moves.staged p.front) known;
         mine = known_snoc (Knows (log ++ es) x') (generation_of log) ps pass
-            (known_on (Knows log x) (Knows (log ++ es) x') (generation_of log) ps (λ p e known. knows_moves log es x x' p all_own moves known) tells.1)
+            (known_on (Knows log x) (Knows (log ++ es) x') (generation_of log) ps (λ p e known. knows_moves log es x x' p all_own (moves.staged p.front) known) tells.1)
             (λ e. (subst (λ (f : Option ℕ). HasAnswer pass.pid f (log ++ es)) (sym f_is) tt, admits.staged));
       };
     }
-may_enter {D} {B} {g} {h} k first own ps log x x' (Err refusal) pid generation es tells notes moves admits view =
-    let es_is : es ≡ [] = nothing refusal es notes in
-    let moves' : Moves [] (moment x) (moment x') = subst (λ (l : List BookEntry). Moves l (moment x) (moment x')) es_is moves in record {
+may_enter k first own ps log x x' (Err refusal) pid generation es tells notes moves admits view =
+    let es_is : es ≡ [] = enter_nothing (Some x.apart.generation) pid generation refusal es notes in
+    record {
       was = taken log x;
       added = es;
       held = refl;
-      is_told = enter_free pid generation (Some (moment x).generation) (Err refusal) es notes;
+      is_told = enter_free pid generation (Some x.apart.generation) (Err refusal) es notes;
       own = subst AllOwn (sym es_is) tt;
       step = record {
         turns = subst (λ (l : List BookEntry). Turns log l ps ps) (sym es_is) (turns_none log ps);
-        stands = λ f is. behind_moves f log es x x' (subst AllOwn (sym es_is) tt) moves is;
-        others = λ p e known. knows_moves log es x x' p (subst AllOwn (sym es_is) tt) moves known;
-        mine = known_on (Knows log x) (Knows (log ++ es) x') (generation_of log) ps (λ p e known. knows_moves log es x x' p (subst AllOwn (sym es_is) tt) moves known) tells.1;
+        stands = λ f. moves.stands f log;
+        others = λ p e known. knows_moves log es x x' p (subst AllOwn (sym es_is) tt) (moves.staged p.front) known;
+        mine = known_on (Knows log x) (Knows (log ++ es) x') (generation_of log) ps (λ p e known. knows_moves log es x x' p (subst AllOwn (sym es_is) tt) (moves.staged p.front) known) tells.1;
       };
     }
-  where
-    nothing : (why : StoreNo) (es : List BookEntry) → EnterNotes {P = Pass} (newcomer (Some (moment x).generation) pid generation) (Err why) es → es ≡ []
-    nothing (Stale mine found) es notes = notes.1
-    nothing Disk es notes = absurd notes
-    nothing (Broken since) es notes = absurd notes
-    nothing (Full need room) es notes = absurd notes
-    nothing (Redo fault) es notes = absurd notes
-    nothing NoMemory es notes = notes
 
-pub token_may_enter : {D B : Type 0} {g h : _} {past : List BookEntry} (k : ℕ) (first : D) (own : List Noted) (ps : List Pass) (log : List BookEntry) (x x' : Segment D B g h) (r : Result Pass StoreNo) (pid generation : ℕ) (es : List BookEntry)
-    (me me' : Seated (Segment D B g h) D) (c : List (ℕ × Option (Segment D B g h))) → me ≡ resting k first own ps past → me' ≡ (with_held me.0 (Some (taken log x)), c) → Tells Behind Knows me.0 (taken log x)
-    → EnterNotes (newcomer (Some (moment x).generation) pid generation) r es → Moves es (moment x) (moment x')
-    → IfOk r (λ pass. Admits pass (moment x')) → IfOk r (λ pass. view_of pass ≡ new_pass pid generation)
-    → MayGive Behind Knows (EnterNotes (newcomer None pid generation) r) (passes_entered r (passes_of me'.0)) me'.0 x'
+pub token_may_enter : {D B : Type 0} {g h : _} {past : List BookEntry} (k : ℕ) (first : D) (own : List Noted) (ps : List Pass) (log : List BookEntry) (x x' : Place D B g h) (r : Result Pass StoreNo) (pid generation : ℕ) (es : List BookEntry)
+    (me me' : Seated (Place D B g h) D (Lent D)) (c : List (ℕ × Option (Place D B g h))) → me ≡ resting k first own ps past → me' ≡ (with_held me.0 (Some (taken log x)), c) → Tells Stands Knows me.0 (taken log x)
+    → EnterNotes (newcomer (Some x.apart.generation) pid generation) r es → PlaceMoves None None es x x'
+    → IfOk r (λ pass. Admits pass (alone x'.apart)) → IfOk r (λ pass. view_of pass ≡ new_pass pid generation)
+    → MayGive Stands Knows (EnterNotes (newcomer None pid generation) r) (passes_entered r (passes_of me'.0)) None me'.0 x'
 token_may_enter {D} {B} {g} {h} k first own ps log x x' r pid generation es me me' c is was tells notes moves admits view =
-    let held : me'.0 ≡ Worker (hand_holding k first own ps (taken log x)) = ap (λ (m : Seated (Segment D B g h) D). m.0) was ∙ ap (λ (m : Seated (Segment D B g h) D). with_held m.0 (Some (taken log x))) is in
-    let tells' = (subst (λ (m : Seated (Segment D B g h) D). Tells Behind Knows m.0 (taken log x)) is tells).0 in
-    subst (λ (v : View (Segment D B g h) D). MayGive Behind Knows (EnterNotes (newcomer None pid generation) r) (passes_entered r (passes_of v)) v x') (sym held) (may_enter k first own ps log x x' r pid generation es tells' notes moves admits view)
+    let held : me'.0 ≡ Worker (hand_holding k first own ps None (taken log x)) = ap (λ (m : Seated (Place D B g h) D (Lent D)). m.0) was ∙ ap (λ (m : Seated (Place D B g h) D (Lent D)). with_held m.0 (Some (taken log x))) is in
+    let tells' = (subst (λ (m : Seated (Place D B g h) D (Lent D)). Tells Stands Knows m.0 (taken log x)) is tells).0 in
+    subst (λ (v : View (Place D B g h) D (Lent D)). MayGive Stands Knows (EnterNotes (newcomer None pid generation) r) (passes_entered r (passes_of v)) None v x') (sym held) (may_enter k first own ps log x x' r pid generation es tells' notes moves admits view)
 
 pub entered_among : (r : Result Pass StoreNo) (ps ps' : List Pass) → ps' ≡ passes_entered r ps → IfOk r (λ pass. Among pass ps')
 entered_among (Ok pass) ps ps' is = subst (Among pass) (sym is) (among-snoc pass ps)
@@ -418,11 +388,15 @@ turns_leave log pass ps gen in_ there = record {
       omega (arith, a, b);
 }
 
-may_leave : {D B : Type 0} {g h : _} (k : ℕ) (first : D) (own : List Noted) (ps : List Pass) (log : List BookEntry) (x x' : Segment D B g h) (pass : Pass) (es : List BookEntry)
-    → TellsHand Behind Knows first ps (taken log x) → Among pass ps → pass.generation ≡ (moment x).generation → LeaveNotes (user_of (Some (moment x).generation) (view_of pass)) es → Moves es (moment x) (moment x')
-    → HandMay Behind Knows (NotesLeave pass.pid true) (without_pass pass.pid pass.generation ps) (hand_holding k first own ps (taken log x)) x'
+pub leave_own : (stamp : Option ℕ) (v : PassView) (es : List BookEntry) → LeaveNotes (user_of stamp v) es → AllOwn es
+leave_own stamp v es (inl left) = subst AllOwn (sym left) (refl, tt)
+leave_own stamp v es (inr other) = subst AllOwn (sym other.1) tt
+
+may_leave : {D B : Type 0} {g h : _} (k : ℕ) (first : D) (own : List Noted) (ps : List Pass) (log : List BookEntry) (x x' : Place D B g h) (pass : Pass) (es : List BookEntry)
+    → TellsHand Stands Knows None first ps (taken log x) → Among pass ps → pass.generation ≡ x.apart.generation → LeaveNotes (user_of (Some x.apart.generation) (view_of pass)) es → PlaceMoves None None es x x'
+    → HandMay Stands Knows (NotesLeave pass.pid true) (without_pass pass.pid pass.generation ps) None (hand_holding k first own ps None (taken log x)) x'
 may_leave k first own ps log x x' pass es tells in_ gen (inl es_is) moves =
-    let gen' : pass.generation ≡ generation_of log = gen ∙ sym tells.0.generation in
+    let gen' : pass.generation ≡ generation_of log = gen ∙ sym (stands_in first log x tells.0) in
     let some : 0 < live pass.pid (generation_of log) ps = subst (λ z. 0 < live pass.pid z ps) gen' (among_live pass ps in_) in
     let few = tells.2 pass.pid in
     let all_own : AllOwn es = subst AllOwn (sym es_is) (refl, tt) in record {
@@ -433,21 +407,21 @@ may_leave k first own ps log x x' pass es tells in_ gen (inl es_is) moves =
       own = all_own;
       step = record {
         turns = subst (λ (l : List BookEntry). Turns log l ps (without_pass pass.pid pass.generation ps)) (sym es_is) (turns_leave log pass ps gen' in_ (omega (arith, some, few)));
-        stands = λ f is. behind_moves f log es x x' all_own moves is;
-        others = λ p e known. knows_moves log es x x' p all_own moves known;
-        mine = known_less (Knows (log ++ es) x') (generation_of log) pass.pid pass.generation ps (known_on (Knows log x) (Knows (log ++ es) x') (generation_of log) ps (λ p e known. knows_moves log es x x' p all_own moves known) tells.1);
+        stands = λ f. moves.stands f log;
+        others = λ p e known. knows_moves log es x x' p all_own (moves.staged p.front) known;
+        mine = known_less (Knows (log ++ es) x') (generation_of log) pass.pid pass.generation ps (known_on (Knows log x) (Knows (log ++ es) x') (generation_of log) ps (λ p e known. knows_moves log es x x' p all_own (moves.staged p.front) known) tells.1);
       };
     }
 may_leave k first own ps log x x' pass es tells in_ gen (inr other) moves = absurd (other.0 gen)
 
-pub token_may_leave : {D B : Type 0} {g h : _} {past : List BookEntry} (k : ℕ) (first : D) (own : List Noted) (ps : List Pass) (log : List BookEntry) (x x' : Segment D B g h) (pass : Pass) (es : List BookEntry)
-    (me me' : Seated (Segment D B g h) D) (c : List (ℕ × Option (Segment D B g h))) → me ≡ resting k first own ps past → me' ≡ (with_held me.0 (Some (taken log x)), c) → Tells Behind Knows me.0 (taken log x)
-    → Among pass ps → pass.generation ≡ (moment x).generation → LeaveNotes (user_of (Some (moment x).generation) (view_of pass)) es → Moves es (moment x) (moment x')
-    → MayGive Behind Knows (NotesLeave pass.pid true) (without_pass pass.pid pass.generation (passes_of me'.0)) me'.0 x'
+pub token_may_leave : {D B : Type 0} {g h : _} {past : List BookEntry} (k : ℕ) (first : D) (own : List Noted) (ps : List Pass) (log : List BookEntry) (x x' : Place D B g h) (pass : Pass) (es : List BookEntry)
+    (me me' : Seated (Place D B g h) D (Lent D)) (c : List (ℕ × Option (Place D B g h))) → me ≡ resting k first own ps past → me' ≡ (with_held me.0 (Some (taken log x)), c) → Tells Stands Knows me.0 (taken log x)
+    → Among pass ps → pass.generation ≡ x.apart.generation → LeaveNotes (user_of (Some x.apart.generation) (view_of pass)) es → PlaceMoves None None es x x'
+    → MayGive Stands Knows (NotesLeave pass.pid true) (without_pass pass.pid pass.generation (passes_of me'.0)) None me'.0 x'
 token_may_leave {D} {B} {g} {h} k first own ps log x x' pass es me me' c is was tells in_ gen notes moves =
-    let held : me'.0 ≡ Worker (hand_holding k first own ps (taken log x)) = ap (λ (m : Seated (Segment D B g h) D). m.0) was ∙ ap (λ (m : Seated (Segment D B g h) D). with_held m.0 (Some (taken log x))) is in
-    let tells' = (subst (λ (m : Seated (Segment D B g h) D). Tells Behind Knows m.0 (taken log x)) is tells).0 in
-    subst (λ (v : View (Segment D B g h) D). MayGive Behind Knows (NotesLeave pass.pid true) (without_pass pass.pid pass.generation (passes_of v)) v x') (sym held) (may_leave k first own ps log x x' pass es tells' in_ gen notes moves)
+    let held : me'.0 ≡ Worker (hand_holding k first own ps None (taken log x)) = ap (λ (m : Seated (Place D B g h) D (Lent D)). m.0) was ∙ ap (λ (m : Seated (Place D B g h) D (Lent D)). with_held m.0 (Some (taken log x))) is in
+    let tells' = (subst (λ (m : Seated (Place D B g h) D (Lent D)). Tells Stands Knows m.0 (taken log x)) is tells).0 in
+    subst (λ (v : View (Place D B g h) D (Lent D)). MayGive Stands Knows (NotesLeave pass.pid true) (without_pass pass.pid pass.generation (passes_of v)) None v x') (sym held) (may_leave k first own ps log x x' pass es tells' in_ gen notes moves)
 
 -- ---- a leave in another generation
 
@@ -473,10 +447,10 @@ live_keeps q p h g (x ∷ xs) ne = split ((x.pid == p) && (x.generation == h)) r
         omega (arith, gone)
     split false e rec = omega (arith, rec)
 
-may_stale : {D B : Type 0} {g h : _} (k : ℕ) (first : D) (own : List Noted) (ps : List Pass) (log : List BookEntry) (x : Segment D B g h) (pass : Pass) → TellsHand Behind Knows first ps (taken log x) → pass.generation ≢ (moment x).generation
-    → HandMay Behind Knows (NotesLeave pass.pid false) (without_pass pass.pid pass.generation ps) (hand_holding k first own ps (taken log x)) x
+may_stale : {D B : Type 0} {g h : _} (k : ℕ) (first : D) (own : List Noted) (ps : List Pass) (log : List BookEntry) (x : Place D B g h) (pass : Pass) → TellsHand Stands Knows None first ps (taken log x) → pass.generation ≢ x.apart.generation
+    → HandMay Stands Knows (NotesLeave pass.pid false) (without_pass pass.pid pass.generation ps) None (hand_holding k first own ps None (taken log x)) x
 may_stale k first own ps log x pass tells other =
-    let other' : pass.generation ≢ generation_of log = λ e. other (e ∙ tells.0.generation) in record {
+    let other' : pass.generation ≢ generation_of log = λ e. other (e ∙ stands_in first log x tells.0) in record {
       was = taken log x;
       added = [];
       held = refl;
@@ -488,16 +462,16 @@ may_stale k first own ps log x pass tells other =
           known = λ a. up_to-less pass.pid pass.generation (generation_of log) ps a;
           fair = λ p. λ i. times_attached (append-nil log i) p + sym (live_keeps p pass.pid pass.generation (generation_of log) ps other') i;
         };
-        stands = λ f is. subst (λ l. Behind f l x) (sym (append-nil log)) is;
+        stands = λ f lent is. subst (λ l. Stands f l x lent) (sym (append-nil log)) is;
         others = λ p e known. subst (λ l. Knows l x p) (sym (append-nil log)) known;
         mine = known_less (Knows (log ++ []) x) (generation_of log) pass.pid pass.generation ps (known_on (Knows log x) (Knows (log ++ []) x) (generation_of log) ps (λ p e known. subst (λ l. Knows l x p) (sym (append-nil log)) known) tells.1);
       };
     }
 
-pub token_may_stale : {D B : Type 0} {g h : _} {past : List BookEntry} (k : ℕ) (first : D) (own : List Noted) (ps : List Pass) (log : List BookEntry) (x : Segment D B g h) (pass : Pass)
-    (me me' : Seated (Segment D B g h) D) (c : List (ℕ × Option (Segment D B g h))) → me ≡ resting k first own ps past → me' ≡ (with_held me.0 (Some (taken log x)), c) → Tells Behind Knows me.0 (taken log x) → pass.generation ≢ (moment x).generation
-    → MayGive Behind Knows (NotesLeave pass.pid false) (without_pass pass.pid pass.generation (passes_of me'.0)) me'.0 x
+pub token_may_stale : {D B : Type 0} {g h : _} {past : List BookEntry} (k : ℕ) (first : D) (own : List Noted) (ps : List Pass) (log : List BookEntry) (x : Place D B g h) (pass : Pass)
+    (me me' : Seated (Place D B g h) D (Lent D)) (c : List (ℕ × Option (Place D B g h))) → me ≡ resting k first own ps past → me' ≡ (with_held me.0 (Some (taken log x)), c) → Tells Stands Knows me.0 (taken log x) → pass.generation ≢ x.apart.generation
+    → MayGive Stands Knows (NotesLeave pass.pid false) (without_pass pass.pid pass.generation (passes_of me'.0)) None me'.0 x
 token_may_stale {D} {B} {g} {h} k first own ps log x pass me me' c is was tells other =
-    let held : me'.0 ≡ Worker (hand_holding k first own ps (taken log x)) = ap (λ (m : Seated (Segment D B g h) D). m.0) was ∙ ap (λ (m : Seated (Segment D B g h) D). with_held m.0 (Some (taken log x))) is in
-    let tells' = (subst (λ (m : Seated (Segment D B g h) D). Tells Behind Knows m.0 (taken log x)) is tells).0 in
-    subst (λ (v : View (Segment D B g h) D). MayGive Behind Knows (NotesLeave pass.pid false) (without_pass pass.pid pass.generation (passes_of v)) v x) (sym held) (may_stale k first own ps log x pass tells' other)
+    let held : me'.0 ≡ Worker (hand_holding k first own ps None (taken log x)) = ap (λ (m : Seated (Place D B g h) D (Lent D)). m.0) was ∙ ap (λ (m : Seated (Place D B g h) D (Lent D)). with_held m.0 (Some (taken log x))) is in
+    let tells' = (subst (λ (m : Seated (Place D B g h) D (Lent D)). Tells Stands Knows m.0 (taken log x)) is tells).0 in
+    subst (λ (v : View (Place D B g h) D (Lent D)). MayGive Stands Knows (NotesLeave pass.pid false) (without_pass pass.pid pass.generation (passes_of v)) None v x) (sym held) (may_stale k first own ps log x pass tells' other)

@@ -1,29 +1,31 @@
 -- The shared side when all tokens are joined.
-use Rattle.std.{proofs.{Common.{◌≡◌, ⊎_elim, ℕ, ◌+◌, ◌<◌, List, [], ◌∷◌, ◌++◌, map, length, length-append, sym, refl, ap, ◌∙◌, subst, arith}}, specs.Prelude.{Some, IfSome, slice_get}}
+use Rattle.std.{proofs.{Common.{◌≡◌, ⊎_elim, ℕ, ◌+◌, ◌<◌, List, [], ◌∷◌, ◌++◌, map, length, length-append, sym, refl, ap, ◌∙◌, subst, arith}}, specs.Prelude.{Option, None, Some, IfSome, slice_get}}
 use Rattle.atomic_table.specs.Seated.{TableId}
 use Rattle.pm_segment.specs.{pm_query.declared.book.BookEntry.BookEntry, declared.pass.Pass.Pass}
-use Rattle.pm_store_shared.{specs.{declared.views.{Joined.Joined, Noted.Noted, Taken.Taken}, Log.IsShuffle, Places.EachOnce, Told.{AllContinue, AreNewTokens, AreShares, AreTokens, owns, pasts, new_token, shared_with, Seated, SharedModel, TokenModel, Tells, desk_resting, first_of, generation_in, is_own_of, joined_of}}, proofs.{Keeps.got_end, Places.each_once}}
+use Rattle.pm_store_shared.{specs.{declared.views.{Joined.Joined, Noted.Noted, Taken.Taken}, Log.IsShuffle, Places.EachOnce, Told.{AllContinue, AreNewTokens, AreShares, AreTokens, owns, pasts, new_token, shared_with, Seated, SharedModel, TokenModel, IsWhole, Tells, desk_resting, first_of, generation_in, is_own_of, joined_of}}, proofs.{Keeps.got_end, Places.each_once}}
 
 pub map-length : {A C : Type 0} (f : A → C) (xs : List A) → length (map f xs) ≡ length xs
 map-length f [] = refl
 map-length f (x ∷ xs) = let h = map-length f xs in omega (arith, h)
 
 -- what a shared side shows
-abbrev pub shown : (S F : Type 0) → TableId → ℕ → Seated S F → SharedModel F
-shown S F t n me = record { table = t; tokens = n; first = first_of me.0; generation = generation_in me.0; own = is_own_of me.0; joined = joined_of me.0 }
+abbrev pub shown : (S F L : Type 0) → TableId → ℕ → Seated S F L → SharedModel F
+shown S F L t n me = record { table = t; tokens = n; first = first_of me.0; generation = generation_in me.0; own = is_own_of me.0; joined = joined_of me.0 }
 
-module _ {S F : Type 0} (Is : F → List BookEntry → S → Type 0) (Knows : List BookEntry → S → Pass → Type 0) where
-  abbrev pub Closes : S → SharedModel F → Type 0
-  Closes x s = IfSome s.first (λ first. (log : List BookEntry) × Is first log x × IsShuffle s.tokens (owns s.joined) s.own log × EachOnce (owns s.joined) s.own log
+module _ {S F L : Type 0} (Is : F → List BookEntry → S → Option L → Type 0) (Knows : List BookEntry → S → Pass → Type 0) where
+  -- at the end this holds of the log
+  abbrev pub Closes : (F → List BookEntry → Type 0) → SharedModel F → Type 0
+  Closes Ends s = IfSome s.first (λ first. (log : List BookEntry) × Ends first log × IsShuffle s.tokens (owns s.joined) s.own log × EachOnce (owns s.joined) s.own log
       × AllContinue (pasts s.joined) log)
 
-  pub closes : (id : TableId) (n g : ℕ) (first : F) (own : List Noted) (joined : List Joined) (me : Seated S F) (t : Taken S) (x : S) (s : SharedModel F)
-      → me ≡ desk_resting n first g own joined → Tells Is Knows me.0 t → t.store ≡ x → shown S F id n me ≡ s → length s.joined ≡ s.tokens → Closes x s
-  closes id n g first own joined me t x s is tells store_is view_is all =
-      let tells' = subst (λ (m : Seated S F). Tells Is Knows m.0 t) is tells in
-      let shown_is : shown S F id n (desk_resting n first g own joined) ≡ s = ap (λ (m : Seated S F). shown S F id n m) (sym is) ∙ view_is in
+  pub closes : (Ends : F → List BookEntry → Type 0) (id : TableId) (n g : ℕ) (first : F) (own : List Noted) (joined : List Joined) (me : Seated S F L) (t : Taken S) (s : SharedModel F)
+      → me ≡ desk_resting n first g own joined → Tells Is Knows me.0 t → IsWhole Is Knows me.0 t → (Is first t.log t.store None → Ends first t.log) → shown S F L id n me ≡ s → length s.joined ≡ s.tokens → Closes Ends s
+  closes Ends id n g first own joined me t s is tells whole ends view_is all =
+      let tells' = subst (λ (m : Seated S F L). Tells Is Knows m.0 t) is tells in
+      let whole' = subst (λ (m : Seated S F L). IsWhole Is Knows m.0 t) is whole in
+      let shown_is : shown S F L id n (desk_resting n first g own joined) ≡ s = ap (λ (m : Seated S F L). shown S F L id n m) (sym is) ∙ view_is in
       let all' : length (owns joined) ≡ n = map-length (λ (his : Joined). his.own) joined ∙ ap (λ (y : SharedModel F). length y.joined) shown_is ∙ all ∙ sym (ap (λ (y : SharedModel F). y.tokens) shown_is) in
-      subst (Closes x) shown_is (t.log, subst (λ y. Is first t.log y) store_is tells'.3, tells'.0, each_once n (owns joined) own t.log all' tells'.0, tells'.1)
+      subst (Closes Ends) shown_is (t.log, ends whole', tells'.0, each_once n (owns joined) own t.log all' tells'.0, tells'.1)
 
 -- ---- tokens, one after the other
 

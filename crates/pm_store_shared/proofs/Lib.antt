@@ -2,13 +2,16 @@ pub mod Calls
 pub mod Closing
 pub mod Ending
 pub mod Ends
+pub mod Flushing
 pub mod Gives
 pub mod Keeps
 pub mod Learns
 pub mod Logs
+pub mod Moving
 pub mod Others
 pub mod Places
 pub mod Renewing
 pub mod Steps
 pub mod Stores
+pub mod Unchanged
 pub mod JoinedLaws

@@ -1,8 +1,8 @@
 -- The calls of a token that answer no script.
 use Rattle.std.{proofs.Common.{◌≡◌, ℕ, Bool, List, ◌++◌, Option, None, sym, ◌∙◌, subst}, specs.Prelude.{Result, Ok, Err}}
 use Rattle.pm_segment.specs.pm_record.declared.fault.RedoFault.TheVariants as redo
-use Rattle.pm_segment.specs.{pm_query.{declared.{book.BookEntry.BookEntry, store.{Checkpointed.{Checkpointed, TheVariants.{Done, Skipped, NotDue}}, Seen.{Seen, TheVariants.{Released as CanBeSent, NotFlushed}}, StoreNo.{StoreNo, TheVariants.{Stale, Disk, Broken, Full, Redo, NoMemory}}}}, Book.generation_of, Calls.{PassView, CheckpointNotes, FlushNotes, RedoNotes, SeenNotes, user_of}}, declared.{pass.Pass.Pass, segment.Segment.Segment}, Moment.moment, Passes.{Admits, HasAnswer, view_of}}
-use Rattle.pm_store_shared.{specs.{declared.views.Noted.Noted, Behind.{Behind, Knows}, Passes.Among, Quiet.AllQuiet, Rule.taken, Told.{Seated, Tells, resting}}, proofs.{Logs.known_at, Stores.{answer_on, quiet_own}}}
+use Rattle.pm_segment.specs.{pm_query.{declared.{book.BookEntry.BookEntry, store.{Checkpointed.{Checkpointed, TheVariants.{Done, Skipped, NotDue}}, Seen.{Seen, TheVariants.{Released as CanBeSent, NotFlushed}}, StoreNo.{StoreNo, TheVariants.{Stale, Disk, Broken, Full, Redo, NoMemory}}}}, Book.generation_of, Calls.{PassView, CheckpointNotes, FlushNotes, RedoNotes, SeenNotes, user_of}}, declared.pass.Pass.Pass, Moment.alone, Passes.{Admits, HasAnswer, view_of}}
+use Rattle.pm_store_shared.{specs.{declared.{place.Place.Place, views.{Lent.Lent, Noted.Noted}}, Passes.Among, Quiet.AllQuiet, Rule.taken, Stands.{Knows, Stands}, Told.{Seated, Tells, between}}, proofs.{Logs.known_at, Stores.{answer_on, quiet_own, stands_in}}}
 
 by : (es fs : List BookEntry) → es ≡ fs → AllQuiet fs → AllQuiet es
 by es fs is q = subst AllQuiet (sym is) q
@@ -94,10 +94,10 @@ checkpoint_free v g clean (Err (Redo fault)) es n = absurd n
 checkpoint_free v g clean (Err NoMemory) es n = n
 
 -- a pass that is as it was is known still
-pub token_knows_same : {D B : Type 0} {g h : _} {past : List BookEntry} (k : ℕ) (first : D) (own : List Noted) (ps : List Pass) (log es : List BookEntry) (x x' : Segment D B g h) (me : Seated (Segment D B g h) D) (before now : Pass)
-    → me ≡ resting k first own ps past → Tells Behind Knows me.0 (taken log x) → Among before ps → before.generation ≡ (moment x).generation → AllQuiet es → view_of now ≡ view_of before → Admits now (moment x') → Knows (log ++ es) x' now
+pub token_knows_same : {D B : Type 0} {g h : _} {past : List BookEntry} {had : Option (Lent D)} (k : ℕ) (first : D) (own : List Noted) (ps : List Pass) (log es : List BookEntry) (x x' : Place D B g h) (me : Seated (Place D B g h) D (Lent D)) (before now : Pass)
+    → me ≡ between k first own ps past had → Tells Stands Knows me.0 (taken log x) → Among before ps → before.generation ≡ x.apart.generation → AllQuiet es → view_of now ≡ view_of before → Admits now (alone x'.apart) → Knows (log ++ es) x' now
 token_knows_same {D} {B} {g} {h} k first own ps log es x x' me before now is tells in_ gen quiet view admits =
-    let tells' = (subst (λ (m : Seated (Segment D B g h) D). Tells Behind Knows m.0 (taken log x)) is tells).0 in
-    let gen' : before.generation ≡ generation_of log = gen ∙ sym tells'.0.generation in
+    let tells' = (subst (λ (m : Seated (Place D B g h) D (Lent D)). Tells Stands Knows m.0 (taken log x)) is tells).0 in
+    let gen' : before.generation ≡ generation_of log = gen ∙ sym (stands_in first log x tells'.0) in
     let known = known_at (Knows log x) (generation_of log) before ps tells'.1 in_ gen' in
     (subst (λ (v : PassView). HasAnswer v.pid v.front (log ++ es)) (sym view) (answer_on before.pid before.front log es (quiet_own es quiet) known.0), admits.staged)

@@ -2,7 +2,7 @@
 use Rattle.std.{proofs.{Common.{◌≡◌, ◌⊎◌, inl, inr, ℕ, zero, suc, ◌+◌, ◌<◌, ◌≤◌, ◌&&◌, Bool, true, false, cond, List, [], ◌∷◌, ◌++◌, All, map, Option, None, Some, refl, sym, ◌∙◌, ap, subst, arith, append-nil}, lemmas.{Bool.Decides.nat_tests, List.{Elements.{All-append}, Sums.{fold-append, sum_by-append, sum_by-cons}}}}, specs.{Prelude.{Result, Ok, Err, OnErr, OnOk, fold, nat_eq, nat_lt}, declared.alloc.AllocError.AllocError}}
 use Rattle.atomic_table.specs.Seated.{TableId}
 use Rattle.pm_segment.specs.{pm_query.{pm_facts.Numbers.{sum_below, sum_zero}, declared.book.BookEntry.{BookEntry, TheVariants.{Gone, Opened}}, Book.{generation_after, generation_of, times_attached}}, declared.segment.Segment.Segment, Children.{AreOthers, IsAttendedBy, once, times_behind, times_in}, Moment.{Moment, disk_of, moment}, Moves.{IsAsBefore, IsShown, Moves, Renews}, MovesLaws.{begins_on, moves_none, renewal_shown}, Stands.{Begins, Origin, WaitsFrom}, Unread.has_break, UnreadLaws.{break_before, redo_parts}, Renewal.renewal}
-use Rattle.pm_store_shared.{specs.{declared.views.{Joined.Joined, Noted.Noted, Desk.Desk, Taken.Taken, View.{View, TheVariants.Master}}, Behind.{Behind, Knows}, Log.{NoneOwn, all_behind}, Passes.{AllUpTo, live}, Renewed.{AreApart, AreAttached, RenewNotes}, Rule.{AreCounted, taken}, Told.{DeskMay, HasRenewed, MayGive, Resets, Seated, SharedModel, Tells, desk_resting, first_of, generation_in, given_back, is_own_of, joined_of, log_held, with_held}}, proofs.{Closing.shown, Logs.{known_later, known_on, none_live, up_to_more}, Stores.{behind_moves, knows_moves, times_on, told_on}}}
+use Rattle.pm_store_shared.{specs.{declared.{place.Place.Place, views.{Joined.Joined, Lent.Lent, Noted.Noted, Desk.Desk, Taken.Taken, View.{View, TheVariants.Master}}}, Behind.Behind, Laid.IsLaid, Log.{NoneOwn, all_behind}, Passes.{AllUpTo, live}, Renewed.{AreApart, AreAttached, RenewNotes}, Rule.{AreCounted, taken}, Stands.{Knows, Stands}, Told.{DeskMay, HasRenewed, MayGive, Resets, Seated, SharedModel, Tells, desk_resting, first_of, generation_in, given_back, is_own_of, joined_of, log_held, with_held}}, proofs.{Closing.shown, Logs.{known_later, known_on, none_live, up_to_more}, Moving.{laid_behind, laid_on, whole}, Stores.{knows_moves, times_on, told_on}}}
 
 -- ---- entries
 
@@ -116,63 +116,70 @@ attached log inside gone others are attended pid there =
 abbrev pub desk_holding : {S F : Type 0} → ℕ → F → ℕ → List Noted → List Joined → Taken S → Desk S F
 desk_holding n first gen own joined t = record { dealt = n; first = first; generation = gen; own = own; joined = joined; held = Some t }
 
-module _ {D B : Type 0} {g h : _} (n : ℕ) (first : D) (gen : ℕ) (own : List Noted) (joined : List Joined) (log : List BookEntry) (x x' : Segment D B g h) (gone : List ℕ) (generation : ℕ) where
+module _ {D B : Type 0} {g h : _} (n : ℕ) (first : D) (gen : ℕ) (own : List Noted) (joined : List Joined) (log : List BookEntry) (x x' : Segment D B g h) (p p' : Place D B g h) (gone : List ℕ) (generation : ℕ) where
   abbrev pub Did : Result (Unit {0}) AllocError → Type 0
   Did r =
       OnOk r ((others : List ℕ) × AreOthers (moment x).inside gone others × Renews (map Gone (gone ++ others) ++ Opened generation ∷ []) (moment x) (moment x'))
       × OnErr r (IsAsBefore (moment x) (moment x'))
 
-  desk_may : (r : Result (Unit {0}) AllocError) → Behind first log x → Did r → disk_of x' ≡ disk_of x → DeskMay Behind Knows (RenewNotes log generation gone r) (desk_holding n first gen own joined (taken log x)) x'
-  desk_may (Ok done) is did disk =
+  pub did_commits : (r : Result (Unit {0}) AllocError) → Did r → (moment x').commits ≡ (moment x).commits
+  did_commits (Ok done) did = did.0.2.commits
+  did_commits (Err short) did = did.1.commits
+
+  desk_may : (r : Result (Unit {0}) AllocError) → IsLaid x p → IsLaid x' p' → Behind first log x → Did r → disk_of x' ≡ disk_of x
+      → DeskMay Stands Knows (RenewNotes log generation gone r) (desk_holding n first gen own joined (taken log p)) p'
+  desk_may (Ok done) was now is did disk =
       let others : List ℕ = did.0.0 in let es : List BookEntry = renewal (gone ++ others) generation in
       let next = generation_behind log (gone ++ others) generation in record {
-        was = taken log x;
+        was = taken log p;
         added = es;
         held = refl;
         is_told = (others, refl, apart (moment x).inside gone others did.0.1, attached log (moment x).inside gone others did.0.1 is.attended);
         none_own = none_gone (gone ++ others) generation;
         step = record {
           resets = resets_behind log es next (nobody_behind log (moment x).inside gone others generation did.0.1 is.attended);
-          stands = λ f was. behind_renewed f log x x' gone others generation did.0.1 did.0.2 disk was;
-          passes = λ ps up known. subst (λ z. Rattle.pm_store_shared.specs.Passes.AllKnown (Knows (log ++ es) x') z ps) (sym next) (known_later (Knows (log ++ es) x') (generation_of log) ps up);
+          stands = λ f lent there. laid_on f log es x x' p p' was now (behind_renewed f log x x' gone others generation did.0.1 did.0.2 disk) lent there;
+          passes = λ ps up known. subst (λ z. Rattle.pm_store_shared.specs.Passes.AllKnown (Knows (log ++ es) p') z ps) (sym next) (known_later (Knows (log ++ es) p') (generation_of log) ps up);
         };
       }
-  desk_may (Err short) is did disk =
-      let moves = moves_still x x' did.1 disk in record {
-        was = taken log x;
+  desk_may (Err short) was now is did disk =
+      let moves = whole [] x x' p p' tt was now (moves_still x x' did.1 disk) in record {
+        was = taken log p;
         added = [];
         held = refl;
         is_told = refl;
         none_own = tt;
         step = record {
           resets = λ dealt cells a. subst (AreCounted dealt cells) (sym (append-nil log)) a;
-          stands = λ f was. behind_moves f log [] x x' tt moves was;
-          passes = λ ps up known. subst (λ z. Rattle.pm_store_shared.specs.Passes.AllKnown (Knows (log ++ []) x') z ps) (sym (ap generation_of (append-nil log)))
-              (known_on (Knows log x) (Knows (log ++ []) x') (generation_of log) ps (λ p e k. knows_moves log [] x x' p tt moves k) known);
+          stands = λ f. moves.stands f log;
+          passes = λ ps up known. subst (λ z. Rattle.pm_store_shared.specs.Passes.AllKnown (Knows (log ++ []) p') z ps) (sym (ap generation_of (append-nil log)))
+              (known_on (Knows log p) (Knows (log ++ []) p') (generation_of log) ps (λ q e k. knows_moves log [] p p' q tt (moves.staged q.front) k) known);
         };
       }
 
-  pub renew_may : (r : Result (Unit {0}) AllocError) (me me' : Seated (Segment D B g h) D) (c : List (ℕ × Option (Segment D B g h))) → me ≡ desk_resting n first gen own joined → me' ≡ (with_held me.0 (Some (taken log x)), c)
-      → Tells Behind Knows me.0 (taken log x) → Did r → disk_of x' ≡ disk_of x → MayGive Behind Knows (RenewNotes (log_held me'.0) generation gone r) [] me'.0 x'
-  renew_may r me me' c is was tells did disk =
-      let held : me'.0 ≡ Master (desk_holding n first gen own joined (taken log x)) = ap (λ (m : Seated (Segment D B g h) D). m.0) was ∙ ap (λ (m : Seated (Segment D B g h) D). with_held m.0 (Some (taken log x))) is in
-      let tells' = subst (λ (m : Seated (Segment D B g h) D). Tells Behind Knows m.0 (taken log x)) is tells in
-      subst (λ (v : View (Segment D B g h) D). MayGive Behind Knows (RenewNotes (log_held v) generation gone r) [] v x') (sym held) (desk_may r tells'.3 did disk)
+  pub renew_may : (r : Result (Unit {0}) AllocError) (me me' : Seated (Place D B g h) D (Lent D)) (c : List (ℕ × Option (Place D B g h))) → me ≡ desk_resting n first gen own joined → me' ≡ (with_held me.0 (Some (taken log p)), c)
+      → Tells Stands Knows me.0 (taken log p) → IsLaid x p → IsLaid x' p' → Did r → disk_of x' ≡ disk_of x → MayGive Stands Knows (RenewNotes (log_held me'.0) generation gone r) [] None me'.0 p'
+  renew_may r me me' c is was tells laid now did disk =
+      let held : me'.0 ≡ Master (desk_holding n first gen own joined (taken log p)) =
+      ap (λ (m : Seated (Place D B g h) D (Lent D)). m.0) was ∙ ap (λ (m : Seated (Place D B g h) D (Lent D)). with_held m.0 (Some (taken log p))) is in
+      let stands = (subst (λ (m : Seated (Place D B g h) D (Lent D)). Tells Stands Knows m.0 (taken log p)) is tells).3 in
+      subst (λ (v : View (Place D B g h) D (Lent D)). MayGive Stands Knows (RenewNotes (log_held v) generation gone r) [] None v p') (sym held)
+      (desk_may r laid now (laid_behind first log x p stands.lent laid stands.is).1 did disk)
 
-pub renew_did : {S F : Type 0} (n : ℕ) (first : F) (gen : ℕ) (own : List Noted) (joined : List Joined) (log es : List BookEntry) (x : S) (gone : List ℕ) (generation : ℕ) (r : Result (Unit {0}) AllocError)
-    (id id' : TableId) (me me' me'' : Seated S F) (c c' : List (ℕ × Option S)) (old : SharedModel F) → me ≡ desk_resting n first gen own joined → me' ≡ (with_held me.0 (Some (taken log x)), c) → me'' ≡ (given_back me'.0 es [], c')
-    → generation_of log ≡ gen → shown S F id n me ≡ old → id' ≡ id → generation ≡ old.generation + 1 → RenewNotes (log_held me'.0) generation gone r es
-    → OnOk r ((others : List ℕ) × AreApart gone others × HasRenewed old generation others (renewal (gone ++ others) generation) (shown S F id' n me''))
+pub renew_did : {S F L : Type 0} (n : ℕ) (first : F) (gen : ℕ) (own : List Noted) (joined : List Joined) (log es : List BookEntry) (x : S) (gone : List ℕ) (generation : ℕ) (r : Result (Unit {0}) AllocError)
+    (id id' : TableId) (me me' me'' : Seated S F L) (c c' : List (ℕ × Option S)) (old : SharedModel F) → me ≡ desk_resting n first gen own joined → me' ≡ (with_held me.0 (Some (taken log x)), c) → me'' ≡ (given_back me'.0 es [] None, c')
+    → generation_of log ≡ gen → shown S F L id n me ≡ old → id' ≡ id → generation ≡ old.generation + 1 → RenewNotes (log_held me'.0) generation gone r es
+    → OnOk r ((others : List ℕ) × AreApart gone others × HasRenewed old generation others (renewal (gone ++ others) generation) (shown S F L id' n me''))
 renew_did n first gen own joined log es x gone generation (Err short) id id' me me' me'' c c' old is was now told view same next notes = tt
-renew_did {S} {F} n first gen own joined log es x gone generation (Ok done) id id' me me' me'' c c' old is was now told view same next notes =
+renew_did {S} {F} {L} n first gen own joined log es x gone generation (Ok done) id id' me me' me'' c c' old is was now told view same next notes =
     let others : List ℕ = notes.0 in
     let es_is : es ≡ renewal (gone ++ others) generation = notes.1 in
-    let old_is : old ≡ shown S F id n (desk_resting n first gen own joined) = sym view ∙ ap (shown S F id n) is in
-    let v : View S F = Master record { dealt = n; first = first; generation = generation_of (log ++ es); own = own ++ all_behind log es; joined = joined; held = None } in
+    let old_is : old ≡ shown S F L id n (desk_resting n first gen own joined) = sym view ∙ ap (shown S F L id n) is in
+    let v : View S F L = Master record { dealt = n; first = first; generation = generation_of (log ++ es); own = own ++ all_behind log es; joined = joined; held = None } in
     let now_is : me''.0 ≡ v =
-    ap (λ (m : Seated S F). m.0) now ∙ ap (λ (m : Seated S F). given_back m.0 es []) was ∙ ap (λ (m : Seated S F). given_back (with_held m.0 (Some (taken log x))) es []) is in
+    ap (λ (m : Seated S F L). m.0) now ∙ ap (λ (m : Seated S F L). given_back m.0 es [] None) was ∙ ap (λ (m : Seated S F L). given_back (with_held m.0 (Some (taken log x))) es [] None) is in
     let log_is : log_held me'.0 ≡ log =
-    ap (λ (m : Seated S F). log_held m.0) was ∙ ap (λ (m : Seated S F). log_held (with_held m.0 (Some (taken log x)))) is in
+    ap (λ (m : Seated S F L). log_held m.0) was ∙ ap (λ (m : Seated S F L). log_held (with_held m.0 (Some (taken log x)))) is in
     let gen_is : generation_of (log ++ es) ≡ generation =
     ap (λ l. generation_of (log ++ l)) es_is ∙ generation_behind log (gone ++ others) generation ∙ ap (λ m. m + 1) (told ∙ sym (ap (λ (s : SharedModel F). s.generation) old_is)) ∙ sym next in (
       others,

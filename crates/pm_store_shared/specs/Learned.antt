@@ -3,8 +3,8 @@ use Rattle.std.specs.Prelude.{◌≡◌, ℕ, false, List, Option, None, Some, I
 use Rattle.pm_query.specs.pm_disk.declared.disk.Disk as Disk
 use Rattle.pm_query.specs.{pm_disk.Files.Files, Calls.{DiskFact, unread_for, flushed_to}, declared.book.BookEntry.BookEntry, pm_record.declared.fault.RedoFault.RedoFault}
 use Rattle.pm_segment.specs.pm_outside.declared.chronicle.Chronicle as Chronicle
-use Rattle.pm_segment.specs.{declared.{live.Live.Live, segment.Segment.Segment}, Fronts.flushed_of, Moment.moment, pm_redo.Found.IsReason, Unread.{has_break, has_redo}}
-use Rattle.pm_store_shared.specs.{Behind.Behind, Log.Continues}
+use Rattle.pm_segment.specs.{declared.{apart.Apart.Apart, live.Live.Live}, Fronts.flushed_of, Moment.over, Rests.IsAtRest, pm_redo.Found.IsReason, Unread.{has_break, has_redo}}
+use Rattle.pm_store_shared.specs.{Behind.BehindAt, Log.Continues}
 
 -- Where no fault of the disk is among these entries, and no redo has ended, this is why the files can't be read that a store was handed.
 abbrev pub IsUnread : (files : Option Files) → (past : List BookEntry) → RedoFault → Type 0
@@ -15,10 +15,12 @@ module _ {D B : Type 0} (g : Disk.Ghosts D) (h : Chronicle.Ghosts B BookEntry) w
   pub record WasFlushed (first : D) (past : List BookEntry) (front : ℕ) : Type 0 where
     pub log : List BookEntry
     pub within : Continues log past
-    pub store : Segment D B g h
-    pub stood : Behind first log store
+    pub disk : D
+    pub apart : Apart D B g h
+    pub stood : BehindAt g first log (over disk apart)
+    pub rests : IsAtRest disk apart
     pub its : Live
-    pub read : (moment store).live ≡ Some its
+    pub read : apart.live ≡ Some its
     pub reached : front ≡ flushed_of its
 
   -- so it is known of a store that got this disk, after these entries

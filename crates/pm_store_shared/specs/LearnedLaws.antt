@@ -21,8 +21,10 @@ learned_on g h (Some first) past now (more, now_is) (flushed_to front) known =
     record {
       log = known.log;
       within = (known.within.0 ++ more, now_is ∙ ap (λ l. l ++ more) known.within.1 ∙ append_assoc known.log known.within.0 more);
-      store = known.store;
+      disk = known.disk;
+      apart = known.apart;
       stood = known.stood;
+      rests = known.rests;
       its = known.its;
       read = known.read;
       reached = known.reached;

@@ -54,8 +54,24 @@ abbrev pub AllContinue : List (List BookEntry) → List BookEntry → Type 0
 AllContinue [] log = Unit {0}
 AllContinue (past ∷ others) log = Continues past log × AllContinue others log
 
-abbrev pub Seated : (S F : Type 0) → Type 0
-Seated S F = Me (Option S) (View S F)
+abbrev pub Seated : (S F L : Type 0) → Type 0
+Seated S F L = Me (Option S) (View S F L)
+
+-- ---- what is lent
+
+module _ {L : Type 0} where
+  -- what a seat has lent is what is lent
+  abbrev pub KnowsLent : (had lent : Option L) → Type 0
+  KnowsLent None lent = Unit {0}
+  KnowsLent (Some b) lent = lent ≡ Some b
+
+  -- What stands with what is lent does so after a call of who had lent the one before it, and has lent the other after it: who
+  -- lends finds nothing lent, and who lent takes that back.
+  abbrev pub Relends : (had has : Option L) → (before now : Option L → Type 0) → Type 0
+  Relends None None before now = (lent : Option L) → before lent → now lent
+  Relends None (Some b) before now = (lent : Option L) → before lent → (lent ≡ None) × now (Some b)
+  Relends (Some b) None before now = before (Some b) → now None
+  Relends (Some b) (Some c) before now = ⊥
 
 module _ {S : Type 0} where
   abbrev pub log_in : Option (Taken S) → List BookEntry
@@ -72,32 +88,41 @@ module _ {S : Type 0} where
   store_in (x ∷ xs) = x.1
 
 module _ {S F : Type 0} where
-  abbrev pub number_of : View S F → ℕ
+  -- the shared side, once a store was handed in
+  abbrev pub new_desk : F → Desk S F
+  new_desk first = record { dealt = 0; first = first; generation = 1; own = noted 0 (Opened 1) ∷ []; joined = []; held = None }
+
+module _ {S F L : Type 0} where
+  abbrev pub number_of : View S F L → ℕ
   number_of Vacant = 0
   number_of Founding = 0
   number_of (Master d) = d.dealt
   number_of (Worker h) = h.number
   number_of Spent = 0
 
-  abbrev pub IsMine : View S F → Type 0
+  abbrev pub IsMine : View S F L → Type 0
   IsMine (Master d) = Unit {0}
   IsMine (Worker h) = Unit {0}
   IsMine _ = ⊥
 
-  abbrev pub with_held : View S F → Option (Taken S) → View S F
+  abbrev pub with_held : View S F L → Option (Taken S) → View S F L
   with_held (Master d) t = Master record { dealt = d.dealt; first = d.first; generation = d.generation; own = d.own; joined = d.joined; held = t }
-  with_held (Worker h) t = Worker record { number = h.number; first = h.first; own = h.own; passes = h.passes; past = past_in t h.past; held = t }
+  with_held (Worker h) t = Worker record { number = h.number; first = h.first; own = h.own; passes = h.passes; past = past_in t h.past; held = t; lent = h.lent }
   with_held v t = v
 
+  abbrev pub HasNoneLent : View S F L → Type 0
+  HasNoneLent (Worker h) = h.lent ≡ None
+  HasNoneLent _ = Unit {0}
+
   -- all entries before the call of who has the store
-  abbrev pub log_held : View S F → List BookEntry
+  abbrev pub log_held : View S F L → List BookEntry
   log_held (Master d) = log_in d.held
   log_held (Worker h) = log_in h.held
   log_held _ = []
 
-  -- the view, once the store is given back with these entries after those that were there, and these passes
-  abbrev pub given_back : View S F → List BookEntry → List Pass → View S F
-  given_back (Master d) es ps = Master record {
+  -- the view, once the store is given back with these entries after those that were there, these passes, and this lent
+  abbrev pub given_back : View S F L → List BookEntry → List Pass → Option L → View S F L
+  given_back (Master d) es ps lent = Master record {
     dealt = d.dealt;
     first = d.first;
     generation = generation_of (log_in d.held ++ es);
@@ -105,142 +130,168 @@ module _ {S F : Type 0} where
     joined = d.joined;
     held = None;
   }
-  given_back (Worker h) es ps = Worker record { number = h.number; first = h.first; own = h.own ++ noted_from (length (log_in h.held)) es; passes = ps; past = h.past; held = None }
-  given_back v es ps = v
+  given_back (Worker h) es ps lent = Worker record { number = h.number; first = h.first; own = h.own ++ noted_from (length (log_in h.held)) es; passes = ps; past = h.past; held = None; lent = lent }
+  given_back v es ps lent = v
 
-  abbrev pub Gave : (List BookEntry → Type 0) → List Pass → Step (Option S) → Seated S F → ℕ → Seated S F → Type 0
-  Gave told ps st m found n = (es : List BookEntry) × told es × (n ≡ (given_back m.0 es ps, []))
+  abbrev pub Gave : (List BookEntry → Type 0) → List Pass → Option L → Step (Option S) → Seated S F L → ℕ → Seated S F L → Type 0
+  Gave told ps lent st m found n = (es : List BookEntry) × told es × (n ≡ (given_back m.0 es ps lent, []))
 
   -- a table's first steps
-  abbrev pub Opens : Step (Option S) → Seated S F → ℕ → Seated S F → Type 0
+  abbrev pub Opens : Step (Option S) → Seated S F L → ℕ → Seated S F L → Type 0
   Opens st m found n = n ≡ (Founding, (0, None) ∷ [])
 
-  abbrev pub new_desk : F → Desk S F
-  new_desk first = record { dealt = 0; first = first; generation = 1; own = noted 0 (Opened 1) ∷ []; joined = []; held = None }
+  abbrev pub desk_on : Option F → View S F L
+  desk_on None = Vacant
+  desk_on (Some first) = Master (new_desk first)
 
-  abbrev pub founded : (S → F) → Option S → View S F
+  abbrev pub founded : (S → Option F) → Option S → View S F L
   founded first_of None = Vacant
-  founded first_of (Some x) = Master (new_desk (first_of x))
+  founded first_of (Some x) = desk_on (first_of x)
 
-  abbrev pub Founded : (S → F) → Step (Option S) → Seated S F → ℕ → Seated S F → Type 0
+  abbrev pub Founded : (S → Option F) → Step (Option S) → Seated S F L → ℕ → Seated S F L → Type 0
   Founded first_of st m found n = n ≡ (founded first_of (store_in m.1), [])
 
   -- one more token
-  abbrev pub new_hand : ℕ → F → Hand S F
-  new_hand k first = record { number = k; first = first; own = []; passes = []; past = []; held = None }
+  abbrev pub new_hand : ℕ → F → Hand S F L
+  new_hand k first = record { number = k; first = first; own = []; passes = []; past = []; held = None; lent = None }
 
-  abbrev pub dealt_more : View S F → View S F
+  abbrev pub dealt_more : View S F L → View S F L
   dealt_more (Master d) = Master record { dealt = d.dealt + 1; first = d.first; generation = d.generation; own = d.own; joined = d.joined; held = d.held }
   dealt_more v = v
 
-  abbrev pub next_hand : View S F → View S F
+  abbrev pub next_hand : View S F L → View S F L
   next_hand (Master d) = Worker (new_hand d.dealt d.first)
   next_hand v = Spent
 
   -- the shared side takes in what a token knows
-  abbrev pub taken_in : View S F → View S F → View S F
+  abbrev pub taken_in : View S F L → View S F L → View S F L
   taken_in (Master d) (Worker h) = Master record { dealt = d.dealt; first = d.first; generation = d.generation; own = d.own; joined = d.joined ++ record { own = h.own; past = h.past } ∷ []; held = d.held }
   taken_in v w = v
 
-  -- ---- a seat between two calls: it holds nothing
+  -- ---- a seat between two calls: it holds nothing, and has lent nothing
 
-  abbrev pub resting : ℕ → F → List Noted → List Pass → List BookEntry → Seated S F
-  resting k first own passes past = (Worker record { number = k; first = first; own = own; passes = passes; past = past; held = None }, [])
+  -- between two turns of one call it may have lent something
+  abbrev pub between : ℕ → F → List Noted → List Pass → List BookEntry → Option L → Seated S F L
+  between k first own passes past lent = (Worker record { number = k; first = first; own = own; passes = passes; past = past; held = None; lent = lent }, [])
 
-  abbrev pub desk_resting : ℕ → F → ℕ → List Noted → List Joined → Seated S F
+  abbrev pub resting : ℕ → F → List Noted → List Pass → List BookEntry → Seated S F L
+  resting k first own passes past = between k first own passes past None
+
+  abbrev pub desk_resting : ℕ → F → ℕ → List Noted → List Joined → Seated S F L
   desk_resting n first g own joined = (Master record { dealt = n; first = first; generation = g; own = own; joined = joined; held = None }, [])
 
-  abbrev pub first_of : View S F → Option F
+  abbrev pub first_of : View S F L → Option F
   first_of (Master d) = Some d.first
   first_of (Worker h) = Some h.first
   first_of _ = None
 
-  abbrev pub is_own_of : View S F → List Noted
+  abbrev pub is_own_of : View S F L → List Noted
   is_own_of (Master d) = d.own
   is_own_of (Worker h) = h.own
   is_own_of _ = []
 
-  abbrev pub passes_of : View S F → List Pass
+  abbrev pub passes_of : View S F L → List Pass
   passes_of (Worker h) = h.passes
   passes_of _ = []
 
-  abbrev pub past_of : View S F → List BookEntry
+  abbrev pub past_of : View S F L → List BookEntry
   past_of (Worker h) = h.past
   past_of _ = []
 
-  abbrev pub generation_in : View S F → ℕ
+  -- Who has taken this store for a pass of its generation goes on with it. Else the pass is stale, and the store was given back.
+  abbrev pub IsFor : (S → ℕ) → Pass → S → Seated S F L → Result S StoreNo → Seated S F L → Type 0
+  IsFor generation pass x m (Ok y) n = (y ≡ x) × (n ≡ m) × (pass.generation ≡ generation x)
+  IsFor generation pass x m (Err refusal) n =
+      (n ≡ (given_back m.0 [] (passes_of m.0) None, [])) × (pass.generation ≢ generation x) × (refusal ≡ Stale pass.generation (generation x))
+
+  abbrev pub generation_in : View S F L → ℕ
   generation_in (Master d) = d.generation
   generation_in _ = 0
 
-  abbrev pub joined_of : View S F → List Joined
+  abbrev pub joined_of : View S F L → List Joined
   joined_of (Master d) = d.joined
   joined_of _ = []
 
   -- a token of this number rests, and shows this
-  abbrev pub IsResting : ℕ → Seated S F → Type 0
+  abbrev pub IsResting : ℕ → Seated S F L → Type 0
   IsResting k me = (first : F) × (me ≡ resting k first (is_own_of me.0) (passes_of me.0) (past_of me.0))
 
-  abbrev pub token_of : TableId → ℕ → View S F → TokenModel F
+  abbrev pub token_of : TableId → ℕ → View S F L → TokenModel F
   token_of table k seat = record { table = table; number = k; first = first_of seat; own = is_own_of seat; passes = passes_of seat; past = past_of seat }
 
   -- so does the shared side, which dealt so many tokens
-  abbrev pub DeskRests : ℕ → Seated S F → Type 0
+  abbrev pub DeskRests : ℕ → Seated S F L → Type 0
   DeskRests n me = (first : F) × (me ≡ desk_resting n first (generation_in me.0) (is_own_of me.0) (joined_of me.0))
 
-  abbrev pub shared_of : TableId → ℕ → View S F → SharedModel F
+  abbrev pub shared_of : TableId → ℕ → View S F L → SharedModel F
   shared_of table n seat = record { table = table; tokens = n; first = first_of seat; generation = generation_in seat; own = is_own_of seat; joined = joined_of seat }
 
-module _ {S F : Type 0} (Is : F → List BookEntry → S → Type 0) (Knows : List BookEntry → S → Pass → Type 0) where
-  -- what the rule tells a token with these passes
-  abbrev pub TellsHand : F → List Pass → Taken S → Type 0
-  TellsHand first passes t =
-      Is first t.log t.store × AllKnown (Knows t.log t.store) (generation_of t.log) passes
+module _ {S F L : Type 0} (Is : F → List BookEntry → S → Option L → Type 0) (Knows : List BookEntry → S → Pass → Type 0) where
+  -- how the store stands, for whom has lent this of it
+  pub record StandsWith (had : Option L) (first : F) (t : Taken S) : Type 0 where
+    pub lent : Option L
+    pub is : Is first t.log t.store lent
+    pub knows : KnowsLent had lent
+
+  -- what the rule tells a token that has lent this, with these passes
+  abbrev pub TellsHand : Option L → F → List Pass → Taken S → Type 0
+  TellsHand had first passes t =
+      StandsWith had first t × AllKnown (Knows t.log t.store) (generation_of t.log) passes
       × ((p : ℕ) → live p (generation_of t.log) passes ≤ times_attached t.log p)
       × AllUpTo (generation_of t.log) passes
 
   -- what the rule tells of the store, as it is taken
-  abbrev pub Tells : View S F → Taken S → Type 0
-  Tells (Master d) t = IsShuffle d.dealt (owns d.joined) d.own t.log × AllContinue (pasts d.joined) t.log × (generation_of t.log ≡ d.generation) × Is d.first t.log t.store
-  Tells (Worker h) t = TellsHand h.first h.passes t × Continues h.past t.log
+  abbrev pub Tells : View S F L → Taken S → Type 0
+  Tells (Master d) t = IsShuffle d.dealt (owns d.joined) d.own t.log × AllContinue (pasts d.joined) t.log × (generation_of t.log ≡ d.generation) × StandsWith None d.first t
+  Tells (Worker h) t = TellsHand h.lent h.first h.passes t × Continues h.past t.log
   Tells _ t = Unit {0}
 
-  abbrev pub Took : Step (Option S) → Seated S F → ℕ → Seated S F → Type 0
+  abbrev pub Took : Step (Option S) → Seated S F L → ℕ → Seated S F L → Type 0
   Took st m found n =
       (found ≡ 0 → (t : Taken S) × (n ≡ (with_held m.0 (Some t), (0, Some t.store) ∷ [])) × Tells m.0 t)
       × (found ≢ 0 → n ≡ m)
 
   -- Who comes with a pass of the generation that is met has the store. Else the pass is stale, and the store was given back.
-  abbrev pub TookFor : (S → ℕ) → Pass → Seated S F → Result S StoreNo → Seated S F → Type 0
+  abbrev pub TookFor : (S → ℕ) → Pass → Seated S F L → Result S StoreNo → Seated S F L → Type 0
   TookFor generation pass m (Ok x) n =
       (log : List BookEntry) × (n ≡ (with_held m.0 (Some (taken log x)), (0, None) ∷ [])) × Tells m.0 (taken log x)
       × (pass.generation ≡ generation x)
   TookFor generation pass m (Err refusal) n =
-      (log : List BookEntry) × (x : S) × (n ≡ (given_back (with_held m.0 (Some (taken log x))) [] (passes_of m.0), [])) × Tells m.0 (taken log x)
+      (log : List BookEntry) × (x : S) × (n ≡ (given_back (with_held m.0 (Some (taken log x))) [] (passes_of m.0) None, [])) × Tells m.0 (taken log x)
       × (pass.generation ≢ generation x) × (refusal ≡ Stale pass.generation (generation x))
 
-  abbrev pub TookAlone : Step (Option S) → Seated S F → ℕ → Seated S F → Type 0
-  TookAlone st m found n = (t : Taken S) × (n ≡ (with_held m.0 (Some t), (0, Some t.store) ∷ [])) × Tells m.0 t
+  -- who takes it alone finds all of it there
+  abbrev pub IsWhole : View S F L → Taken S → Type 0
+  IsWhole (Master d) t = Is d.first t.log t.store None
+  IsWhole _ t = Unit {0}
 
-  -- what a token's call makes of the store that it took, and of its passes
-  pub record HandStep (was : Taken S) (added : List BookEntry) (ps ps' : List Pass) (x' : S) : Type 0 where
+  abbrev pub TookAlone : Step (Option S) → Seated S F L → ℕ → Seated S F L → Type 0
+  TookAlone st m found n = (t : Taken S) × (n ≡ (with_held m.0 (Some t), (0, Some t.store) ∷ [])) × Tells m.0 t × IsWhole m.0 t
+
+  -- a call of who had lent the one, and has lent the other, leaves the store standing
+  abbrev pub StandsOn : (had has : Option L) → Taken S → List BookEntry → S → Type 0
+  StandsOn had has was added x' = (first : F) → Relends had has (Is first was.log was.store) (Is first (was.log ++ added) x')
+
+  -- what a token's call makes of the store that it took, of its passes, and of what it has lent
+  pub record HandStep (was : Taken S) (added : List BookEntry) (ps ps' : List Pass) (had has : Option L) (x' : S) : Type 0 where
     pub turns : Turns was.log added ps ps'
-    pub stands : (first : F) → Is first was.log was.store → Is first (was.log ++ added) x'
+    pub stands : StandsOn had has was added x'
     pub others : (p : Pass) → p.generation ≡ generation_of was.log → Knows was.log was.store p → Knows (was.log ++ added) x' p
     pub mine : AllKnown (Knows (was.log ++ added) x') (generation_of was.log) ps'
 
   -- A token may give back this store: it is the one that was taken, with entries after it that a token may note.
-  pub record HandMay (told : List BookEntry → Type 0) (ps' : List Pass) (h : Hand S F) (x' : S) : Type 0 where
+  pub record HandMay (told : List BookEntry → Type 0) (ps' : List Pass) (has : Option L) (h : Hand S F L) (x' : S) : Type 0 where
     pub was : Taken S
     pub added : List BookEntry
     pub held : h.held ≡ Some was
     pub is_told : told added
     pub own : AllOwn added
-    pub step : HandStep was added h.passes ps' x'
+    pub step : HandStep was added h.passes ps' h.lent has x'
 
   -- what a call of the shared side makes of it, and of all passes
   pub record DeskStep (was : Taken S) (added : List BookEntry) (x' : S) : Type 0 where
     pub resets : Resets was.log added
-    pub stands : (first : F) → Is first was.log was.store → Is first (was.log ++ added) x'
+    pub stands : StandsOn None None was added x'
     pub passes : (ps : List Pass) → AllUpTo (generation_of was.log) ps → AllKnown (Knows was.log was.store) (generation_of was.log) ps
         → AllKnown (Knows (was.log ++ added) x') (generation_of (was.log ++ added)) ps
 
@@ -253,10 +304,10 @@ module _ {S F : Type 0} (Is : F → List BookEntry → S → Type 0) (Knows : Li
     pub none_own : NoneOwn added
     pub step : DeskStep was added x'
 
-  abbrev pub MayGive : (List BookEntry → Type 0) → List Pass → View S F → S → Type 0
-  MayGive told ps (Master d) x' = DeskMay told d x'
-  MayGive told ps (Worker h) x' = HandMay told ps h x'
-  MayGive told ps _ x' = ⊥
+  abbrev pub MayGive : (List BookEntry → Type 0) → List Pass → Option L → View S F L → S → Type 0
+  MayGive told ps has (Master d) x' = DeskMay told d x'
+  MayGive told ps has (Worker h) x' = HandMay told ps has h x'
+  MayGive told ps has _ x' = ⊥
 
 -- ---- the shared side, and its tokens
 
@@ -300,7 +351,7 @@ abbrev pub AreShares : TableId → ℕ → List TableId → Type 0
 AreShares t n shares = (length shares ≡ n) × ((k : ℕ) (share : TableId) → slice_get shares k ≡ Some share → share ≡ t)
 
 -- a table without a store, and room for so many tokens
-pub record IsBlank {S F : Type 0} (table seat : TableId) (me : Seated S F) (shares : List TableId) (list : List (TokenModel F)) (capacity tokens : ℕ) : Type 0 where
+pub record IsBlank {S F L : Type 0} (table seat : TableId) (me : Seated S F L) (shares : List TableId) (list : List (TokenModel F)) (capacity tokens : ℕ) : Type 0 where
   pub same : table ≡ seat
   pub small : IsSmall seat
   pub vacant : me ≡ (Vacant, [])

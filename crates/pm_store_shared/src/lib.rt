@@ -2,21 +2,29 @@
 //! tokens, of which each worker has one.
 //!
 //! The store lies in the one slot of a table. Each call of a token takes it, waiting until it has it, and gives it back before
-//! it returns; but a flush that another's has done in the meantime waits for that one's end, and only asks the store how far the
-//! log is flushed. Contracts see in a token the list of the entries that its calls noted. When all tokens are back, the lists and
-//! the shared side's own are a shuffle of the book.
+//! it returns. A flush takes it twice, and writes its batch in between, with the disk alone: meanwhile others use the store without
+//! it. A flush that another's has done waits for that one's end, and only asks the store how far the log is flushed. Contracts see
+//! in a token the list of the entries that its calls noted. When all tokens are back, the lists and the shared side's own are a
+//! shuffle of the book.
 #![tactic(auto)]
 
+mod caller;
 mod deed;
+mod due;
 mod holding;
+mod inner;
 mod joining;
+mod marking;
+mod place;
 mod plays;
 mod shared;
+mod sleepers;
 mod token;
 mod token_store;
 mod views;
 
+pub use caller::Caller;
 pub use shared::{Shared, Tokens};
 pub use token::Token;
 pub use token_store::TokenStore;
-pub use views::{Desk, Hand, Noted, Taken, View};
+pub use views::{Desk, Hand, Lent, Noted, Taken, View};

@@ -1,11 +1,11 @@
 //! The rule of the table, and what each step tells.
 use crate::deed::Deed;
-use crate::views::View;
+use crate::place::Place;
+use crate::views::{Lent, View};
 use atomic_table::{Join, Play, Split, Table, TableRule};
 use pm_disk::Disk;
 use pm_outside::Chronicle;
 use pm_query::BookEntry;
-use pm_segment::Segment;
 use std::alloc::Global;
 use std::marker::PhantomData;
 
@@ -13,18 +13,21 @@ pub(crate) struct Law<D, B> {
     of: PhantomData<(D, B)>,
 }
 
-impl<D: Disk, B: Chronicle<BookEntry>> TableRule<Option<Segment<D, B>>, View<Segment<D, B>, D>, ()>
-    for Law<D, B> {
-    ghost use Rattle.pm_store_shared.specs.{Behind.{Behind, Knows}, Rule.Kept, declared.views.View.TheVariants.Vacant};
+impl<D: Disk, B: Chronicle<BookEntry>> TableRule<
+    Option<Place<D, B>>,
+    View<Place<D, B>, D, Lent<D>>,
+    (),
+> for Law<D, B> {
+    ghost use Rattle.pm_store_shared.specs.{Rule.Kept, Stands.{Knows, Stands}, declared.views.View.TheVariants.Vacant};
 
-    ghost holds = { λ _. Kept Behind Knows };
+    ghost holds = { λ _. Kept Stands Knows };
 
     ghost first = { λ _. Vacant };
 }
 
 pub(crate) type Guarded<D, B> = Table<
-    Option<Segment<D, B>>,
-    View<Segment<D, B>, D>,
+    Option<Place<D, B>>,
+    View<Place<D, B>, D, Lent<D>>,
     (),
     Law<D, B>,
     Global,
@@ -32,7 +35,7 @@ pub(crate) type Guarded<D, B> = Table<
 
 pub(crate) struct Opening;
 
-impl<S, F> Play<Option<S>, View<S, F>> for Opening {
+impl<S, F, L> Play<Option<S>, View<S, F, L>> for Opening {
     ghost use Rattle.pm_store_shared.specs.Told.{Opens};
 
     ghost then = { Opens };
@@ -40,45 +43,44 @@ impl<S, F> Play<Option<S>, View<S, F>> for Opening {
 
 pub(crate) struct Founds;
 
-impl<D: Disk, B: Chronicle<BookEntry>> Play<Option<Segment<D, B>>, View<Segment<D, B>, D>>
+impl<D: Disk, B: Chronicle<BookEntry>> Play<Option<Place<D, B>>, View<Place<D, B>, D, Lent<D>>>
     for Founds {
-    ghost use Rattle.pm_segment.specs.Moment.{disk_of};
     ghost use Rattle.pm_store_shared.specs.Told.{Founded};
 
-    ghost then = { Founded disk_of };
+    ghost then = { Founded (λ place. place.disk) };
 }
 
 pub(crate) struct Takes;
 
-impl<D: Disk, B: Chronicle<BookEntry>> Play<Option<Segment<D, B>>, View<Segment<D, B>, D>>
+impl<D: Disk, B: Chronicle<BookEntry>> Play<Option<Place<D, B>>, View<Place<D, B>, D, Lent<D>>>
     for Takes {
-    ghost use Rattle.pm_store_shared.specs.{Behind.{Behind, Knows}, Told.Took};
+    ghost use Rattle.pm_store_shared.specs.{Stands.{Knows, Stands}, Told.Took};
 
-    ghost then = { Took Behind Knows };
+    ghost then = { Took Stands Knows };
 }
 
 pub(crate) struct TakesAlone;
 
-impl<D: Disk, B: Chronicle<BookEntry>> Play<Option<Segment<D, B>>, View<Segment<D, B>, D>>
+impl<D: Disk, B: Chronicle<BookEntry>> Play<Option<Place<D, B>>, View<Place<D, B>, D, Lent<D>>>
     for TakesAlone {
-    ghost use Rattle.pm_store_shared.specs.{Behind.{Behind, Knows}, Told.TookAlone};
+    ghost use Rattle.pm_store_shared.specs.{Stands.{Knows, Stands}, Told.TookAlone};
 
-    ghost then = { TookAlone Behind Knows };
+    ghost then = { TookAlone Stands Knows };
 }
 
 pub(crate) struct Gives<C> {
     deed: PhantomData<C>,
 }
 
-impl<S, F, C: Deed> Play<Option<S>, View<S, F>> for Gives<C> {
+impl<S, F, L, C: Deed<L>> Play<Option<S>, View<S, F, L>> for Gives<C> {
     ghost use Rattle.pm_store_shared.specs.Told.{Gave};
 
-    ghost then = { Gave C.told C.passes };
+    ghost then = { Gave C.told C.passes C.lent };
 }
 
 pub(crate) struct Deals;
 
-impl<S, F> Split<View<S, F>> for Deals {
+impl<S, F, L> Split<View<S, F, L>> for Deals {
     ghost use Rattle.pm_store_shared.specs.Told.{dealt_more, next_hand};
 
     ghost left = { dealt_more };
@@ -88,7 +90,7 @@ impl<S, F> Split<View<S, F>> for Deals {
 
 pub(crate) struct Gathers;
 
-impl<S, F> Join<View<S, F>> for Gathers {
+impl<S, F, L> Join<View<S, F, L>> for Gathers {
     ghost use Rattle.pm_store_shared.specs.{Told.taken_in, declared.views.View.TheVariants.Spent};
 
     ghost both = { taken_in };

@@ -1,12 +1,16 @@
 //! The shared side of the store.
 ghost use Rattle.std.specs.{Prelude.{◌≡◌, ℕ, ◌+◌, ◌<◌, ◌≤◌, ◌++◌, List, [], ◌∷◌, None, Some, IfErr, IfOk, IfSome, OnErr, OnOk, length, map, slice_get, vec_capacity, MatchOption}, Arc.arc_value};
-ghost use Rattle.pm_segment.specs.{pm_query.declared.book.BookEntry.{BookEntry, TheVariants.{Gone, Opened}}, Moment.disk_of};
+ghost use Rattle.pm_segment.specs.{pm_query.declared.book.BookEntry.{BookEntry, TheVariants.{Gone, Opened}}, Moment.{disk_of, moment}, declared.commits.Commits.TheVariants.Staged};
 ghost use Rattle.atomic_table.specs.Seated.{TableId};
 ghost use Rattle.pm_store_shared.specs.{Behind.Behind, Ending.EndsSafely, Log.{IsShuffle, noted}, Places.EachOnce, Renewed.AreApart, declared.views.View.TheVariants.Vacant, Told.{AllContinue, AreNewTokens, AreShares, AreTokens, HasRenewed, IsBlank, IsNewShared, IsSmall, SharedModel, TokenModel, DeskRests, known_by, new_token, owns, pasts, shared_of, shared_with}};
 
-use crate::holding::{Holder, give_renewed, take};
+use crate::due::Due;
+use crate::holding::{Holder, give_renewed, take_whole};
+use crate::inner::Inner;
 use crate::joining::Joining;
+use crate::place::Place;
 use crate::plays::{Deals, Founds, Gathers, Guarded, Opening, TakesAlone};
+use crate::sleepers::Sleepers;
 use crate::token::Token;
 use pm_disk::Disk;
 use pm_outside::Chronicle;
@@ -19,7 +23,7 @@ use std::sync::{Arc, Wait};
 /// The shared side. Between two calls it holds nothing of the store.
 #[derive(Drop)]
 pub struct Shared<D: Disk + Drop, B: Chronicle<BookEntry> + Drop> {
-    table: Arc<Guarded<D, B>>,
+    inner: Arc<Inner<D, B>>,
     seat: Holder<D, B>,
     tokens: u32,
 }
@@ -29,7 +33,7 @@ impl<D: Disk + Drop, B: Chronicle<BookEntry> + Drop> Model for Shared<D, B> {
 
     ghost view = { λ s. shared_of s.seat.table_id s.tokens s.seat.me.0 };
 
-    ghost invariant = { λ s. ((arc_value s.table).shared.table_id ≡ s.seat.table_id) × IsSmall s.seat.table_id
+    ghost invariant = { λ s. ((arc_value s.inner).table.shared.table_id ≡ s.seat.table_id) × IsSmall s.seat.table_id
         × DeskRests s.tokens s.seat.me };
 }
 
@@ -72,17 +76,16 @@ impl<D: Disk + Drop, B: Chronicle<BookEntry> + Drop> Tokens<D, B> {
     }
 }
 
-// A hold on the table, and on what its tokens tell each other.
+// A hold on the table.
 #[derive(Drop)]
 struct Share<D: Disk + Drop, B: Chronicle<BookEntry> + Drop> {
-    table: Arc<Guarded<D, B>>,
-    joining: Arc<Joining>,
+    inner: Arc<Inner<D, B>>,
 }
 
 impl<D: Disk + Drop, B: Chronicle<BookEntry> + Drop> Model for Share<D, B> {
     ghost Value = { TableId };
 
-    ghost view = { λ s. (arc_value s.table).shared.table_id };
+    ghost view = { λ s. (arc_value s.inner).table.shared.table_id };
 }
 
 impl<D: Disk + Drop, B: Chronicle<BookEntry> + Drop> Share<D, B> {
@@ -90,16 +93,15 @@ impl<D: Disk + Drop, B: Chronicle<BookEntry> + Drop> Share<D, B> {
         ensures { IfOk result (λ share. share ≡ self.now) }
     {
         Ok(Share {
-            table: Arc::try_clone(&self.table)?,
-            joining: Arc::try_clone(&self.joining)?,
+            inner: Arc::try_clone(&self.inner)?,
         })
     }
 
-    fn into_table(self) -> Arc<Guarded<D, B>>
-        ensures { (arc_value result).shared.table_id ≡ self }
+    fn into_inner(self) -> Arc<Inner<D, B>>
+        ensures { (arc_value result).table.shared.table_id ≡ self }
     {
-        let Share { table, joining: _ } = self;
-        table
+        let Share { inner } = self;
+        inner
     }
 }
 
@@ -121,7 +123,7 @@ fn shares<D: Disk + Drop, B: Chronicle<BookEntry> + Drop>(
 // A table without a store, and room for its tokens.
 #[derive(Drop)]
 struct Blank<D: Disk + Drop, B: Chronicle<BookEntry> + Drop> {
-    table: Share<D, B>,
+    share: Share<D, B>,
     seat: Holder<D, B>,
     shares: Vec<Share<D, B>>,
     list: Vec<Token<D, B>>,
@@ -129,20 +131,25 @@ struct Blank<D: Disk + Drop, B: Chronicle<BookEntry> + Drop> {
 
 impl<D: Disk + Drop, B: Chronicle<BookEntry> + Drop> Blank<D, B> {
     fn new(alloc: Global, tokens: u32) -> Result<Blank<D, B>, AllocError>
-        ensures { IfOk result (λ blank. IsBlank blank.table blank.seat.table_id blank.seat.me
+        ensures { IfOk result (λ blank. IsBlank blank.share blank.seat.table_id blank.seat.me
             blank.shares.items blank.list.items (vec_capacity blank.list) tokens) }
     {
         let Ok((table, seat)) = Guarded::vacant(alloc, &[1], 1, &()) else {
             return Err(AllocError);
         };
-        let table = Share {
-            table: Arc::new(alloc, table)?,
-            joining: Arc::new(alloc, Joining::new())?,
+        let inner = Inner {
+            table,
+            sleepers: Sleepers::new(),
+            joining: Joining::new(),
+            due: Due::new(),
         };
-        let shares = shares(alloc, &table, tokens)?;
+        let share = Share {
+            inner: Arc::new(alloc, inner)?,
+        };
+        let shares = shares(alloc, &share, tokens)?;
         let list = Vec::with_capacity(alloc, tokens as usize)?;
         Ok(Blank {
-            table,
+            share,
             seat,
             shares,
             list,
@@ -151,46 +158,49 @@ impl<D: Disk + Drop, B: Chronicle<BookEntry> + Drop> Blank<D, B> {
 
     // Lays the store into the slot.
     fn filled(self, store: Segment<D, B>) -> (Shared<D, B>, Tokens<D, B>)
-        requires blank { IsBlank self.table self.seat.table_id self.seat.me self.shares.items
+        requires blank { IsBlank self.share self.seat.table_id self.seat.me self.shares.items
             self.list.items (vec_capacity self.list) (length self.shares.items) }
         requires few { length self.shares.items < 4294967296 }
         requires stands { Behind (disk_of store) (Opened 1 ∷ []) store }
+        requires staged { (moment store).commits ≡ Staged }
         ensures shared { IsNewShared (length self.shares.items) (disk_of store) result.0 }
         ensures tokens { AreNewTokens (length self.shares.items) result.0 result.1 }
     {
         let Blank {
-            table,
+            share,
             seat,
             shares,
             list,
         } = self;
-        let shared = founded(table.into_table(), seat, store);
+        let shared = founded(share.into_inner(), seat, store);
         deal_all(shared, shares, list)
     }
 }
 
 // The shared side of a table, once the store lies in its slot.
 fn founded<D: Disk + Drop, B: Chronicle<BookEntry> + Drop>(
-    table: Arc<Guarded<D, B>>,
+    inner: Arc<Inner<D, B>>,
     seat: Holder<D, B>,
     store: Segment<D, B>,
 ) -> Shared<D, B>
-    requires same { (arc_value table).shared.table_id ≡ seat.table_id }
+    requires same { (arc_value inner).table.shared.table_id ≡ seat.table_id }
     requires small { IsSmall seat.table_id }
     requires vacant { seat.me ≡ (Vacant, []) }
     requires stands { Behind (disk_of store) (Opened 1 ∷ []) store }
+    requires staged { (moment store).commits ≡ Staged }
     ensures shared { IsNewShared 0 (disk_of store) result }
     ensures table { result.table ≡ seat.table_id }
 {
     let mut seat = seat;
-    table.shared.swap::<Opening>(&mut seat, 0, 1);
-    match table.shared.exchange(&mut seat, 0, Some(store)) {
+    let place = Place::of(store);
+    inner.table.shared.swap::<Opening>(&mut seat, 0, 1);
+    match inner.table.shared.exchange(&mut seat, 0, Some(place)) {
         None => {}
         Some(_) => unreachable!(),
     }
-    table.shared.swap::<Founds>(&mut seat, 0, 0);
+    inner.table.shared.swap::<Founds>(&mut seat, 0, 0);
     Shared {
-        table,
+        inner,
         seat,
         tokens: 0,
     }
@@ -248,13 +258,12 @@ impl<D: Disk + Drop, B: Chronicle<BookEntry> + Drop> Shared<D, B> {
         ensures token { result ≡ new_token self.old }
         ensures shared { self.new ≡ shared_with self.old (self.old.tokens + 1) self.old.joined }
     {
-        let seat = self.table.shared.split_seat::<Deals>(&mut self.seat);
+        let seat = self.inner.table.shared.split_seat::<Deals>(&mut self.seat);
         let number = self.tokens;
         self.tokens += 1;
-        let Share { table, joining } = share;
+        let Share { inner } = share;
         Token {
-            table,
-            joining,
+            inner,
             seat,
             number,
         }
@@ -274,16 +283,20 @@ impl<D: Disk + Drop, B: Chronicle<BookEntry> + Drop> Shared<D, B> {
             (map Gone (gone.now ++ others) ++ Opened generation ∷ []) self.new) }
         ensures err { OnErr result (self.new ≡ self.old) }
     {
-        let mut store = take(rt, &self.table, &mut self.seat, self.tokens);
+        self.inner.joining.lead(rt);
+        let place = take_whole(rt, &self.inner, &mut self.seat, self.tokens);
+        let mut store = place.into_store();
         let result = store.renew(generation, gone);
+        let place = Place::of(store);
         give_renewed::<Brand, D, B>(
-            &self.table,
+            &self.inner,
             &mut self.seat,
-            store,
+            place,
             generation,
             gone,
             &result,
         );
+        self.inner.joining.end(rt, None);
         result
     }
 
@@ -294,12 +307,14 @@ impl<D: Disk + Drop, B: Chronicle<BookEntry> + Drop> Shared<D, B> {
             (self.old.joined ++ record { own = token.own; past = token.past } ∷ []) }
     {
         let Token {
-            table: _,
-            joining: _,
+            inner: _,
             seat,
             number: _,
         } = token;
-        self.table.shared.join_seat::<Gathers>(&mut self.seat, seat);
+        self.inner
+            .table
+            .shared
+            .join_seat::<Gathers>(&mut self.seat, seat);
     }
 
     /// The store, once all tokens are back, after all entries. It takes no memory and doesn't wait.
@@ -343,14 +358,15 @@ impl<D: Disk + Drop, B: Chronicle<BookEntry> + Drop> Shared<D, B> {
             × EachOnce (owns self.joined) self.own log × AllContinue (pasts self.joined) log) }
     {
         let Shared {
-            table,
+            inner,
             mut seat,
             tokens,
         } = self;
-        table
+        inner
+            .table
             .shared
             .compare_exchange::<TakesAlone>(&mut seat, 0, 0, u64::from(tokens) + 1);
-        let store = table.shared.exchange(&mut seat, 0, None);
-        store.unwrap()
+        let place = inner.table.shared.exchange(&mut seat, 0, None);
+        place.unwrap().into_store()
     }
 }

@@ -3,13 +3,14 @@ ghost use Rattle.std.specs.{Prelude.{◌≡◌, ◌⊎◌, ◌∷◌, [], List, 
 ghost use Rattle.pm_segment.specs.{pm_query.{declared.book.BookEntry.{BookEntry, TheVariants.Detached}, Book.generation_of, Calls.{CheckpointNotes, EnterNotes, FlushNotes, HasReached, IsPast, LearnsFront, LearnsReason, LeaveNotes, MetAnother, MetLater, ReachesNoLess, RedoNotes, RunNotes, SeenNotes, new_pass, newcomer, user_of, with_front}, Limits.HasShortValues}, Passes.view_of};
 ghost use Rattle.pm_store_shared.specs.{Grows.Grew, Learned.Learned, Passes.{Among, without_pass}, Told.{IsResting, IsSmall, TokenModel, token_of}};
 
-use crate::holding::{Holder, give, give_unchanged, take, take_for, take_to_run, wake_all};
-use crate::joining::Joining;
-use crate::plays::Guarded;
+use crate::holding::{Holder, give, give_unchanged, take, take_for, take_whole_for};
+use crate::inner::Inner;
+use crate::marking::finish;
+use crate::place::Place;
 use pm_disk::Disk;
 use pm_outside::Chronicle;
 use pm_query::{BookEntry, Checkpointed, Seen, Staged, Store, StoreNo};
-use pm_segment::Pass;
+use pm_segment::{Batch, Lending, Pass};
 use pm_sql::Script;
 use std::marker::{Brand, Model};
 use std::sync::{Arc, Wait};
@@ -17,8 +18,7 @@ use std::sync::{Arc, Wait};
 /// A worker's seat. Between two calls it holds nothing of the store.
 #[derive(Drop)]
 pub struct Token<D: Disk + Drop, B: Chronicle<BookEntry> + Drop> {
-    pub(crate) table: Arc<Guarded<D, B>>,
-    pub(crate) joining: Arc<Joining>,
+    pub(crate) inner: Arc<Inner<D, B>>,
     pub(crate) seat: Holder<D, B>,
     pub(crate) number: u32,
 }
@@ -28,7 +28,7 @@ impl<D: Disk + Drop, B: Chronicle<BookEntry> + Drop> Model for Token<D, B> {
 
     ghost view = { λ t. token_of t.seat.table_id t.number t.seat.me.0 };
 
-    ghost invariant = { λ t. ((arc_value t.table).shared.table_id ≡ t.seat.table_id) × IsSmall t.seat.table_id
+    ghost invariant = { λ t. ((arc_value t.inner).table.shared.table_id ≡ t.seat.table_id) × IsSmall t.seat.table_id
         × IsResting t.number t.seat.me };
 }
 
@@ -41,17 +41,17 @@ impl<D: Disk + Drop, B: Chronicle<BookEntry> + Drop> Token<D, B> {
         ensures view { IfOk result (λ pass. view_of pass ≡ new_pass pid generation) }
         ensures stale { MetAnother (generation_of self.new.past) generation result }
     {
-        let mut store = take(rt, &self.table, &mut self.seat, self.number);
-        let result = store.enter(pid, generation);
+        let mut place = take(rt, &self.inner, &mut self.seat, self.number);
+        let result = place.apart.enter(pid, generation);
         let pass = Pass {
             pid,
             generation,
             front: None,
         };
         give::<Brand, D, B, (), Result<Pass, StoreNo>>(
-            &self.table,
+            &self.inner,
             &mut self.seat,
-            store,
+            place,
             pass,
             pass,
             &(),
@@ -79,19 +79,12 @@ impl<D: Disk + Drop, B: Chronicle<BookEntry> + Drop> Token<D, B> {
         ensures stale { MetLater (generation_of self.new.past) pass.old.generation result }
     {
         let before = *pass;
-        let mut store = take_to_run(
-            rt,
-            &self.table,
-            &self.joining,
-            &mut self.seat,
-            self.number,
-            &before,
-        )?;
-        let result = store.run(pass, script);
+        let mut place = take_for(rt, &self.inner, &mut self.seat, self.number, &before)?;
+        let result = place.apart.run(pass, script);
         give::<Brand, D, B, Script, Result<Staged, StoreNo>>(
-            &self.table,
+            &self.inner,
             &mut self.seat,
-            store,
+            place,
             before,
             *pass,
             script,
@@ -111,12 +104,12 @@ impl<D: Disk + Drop, B: Chronicle<BookEntry> + Drop> Token<D, B> {
         ensures stale { MetLater (generation_of self.new.past) pass.old.generation result }
     {
         let before = *pass;
-        let mut store = take_for(rt, &self.table, &mut self.seat, self.number, &before)?;
-        let result = store.seen(pass, front);
+        let mut place = take_for(rt, &self.inner, &mut self.seat, self.number, &before)?;
+        let result = place.apart.seen(pass, front);
         give::<Brand, D, B, u64, Result<Seen, StoreNo>>(
-            &self.table,
+            &self.inner,
             &mut self.seat,
-            store,
+            place,
             before,
             *pass,
             &front,
@@ -137,13 +130,10 @@ impl<D: Disk + Drop, B: Chronicle<BookEntry> + Drop> Token<D, B> {
         ensures learned { LearnsFront (Learned D.Disk B.Chronicle self.new.first self.new.past)
             result }
     {
-        if self.joining.turn(rt, pass.front) {
+        if self.inner.joining.turn(rt, pass.front) {
             return self.flushed_by_store(rt, pass);
         }
-        let result = self.flush_store(rt, pass);
-        wake_all(&self.table);
-        self.joining.end(rt, &result);
-        result
+        self.flush_store(rt, pass)
     }
 
     // Up to where the log is flushed, as the store tells it.
@@ -156,13 +146,13 @@ impl<D: Disk + Drop, B: Chronicle<BookEntry> + Drop> Token<D, B> {
         ensures learned { LearnsFront (Learned D.Disk B.Chronicle self.new.first self.new.past)
             result }
     {
-        let store = take_for(rt, &self.table, &mut self.seat, self.number, pass)?;
-        let flushed = store.flushed();
-        give_unchanged(&self.table, &mut self.seat, store);
+        let place = take_for(rt, &self.inner, &mut self.seat, self.number, pass)?;
+        let flushed = place.apart.flushed();
+        give_unchanged(&self.inner, &mut self.seat, place);
         flushed.ok_or(StoreNo::NoMemory)
     }
 
-    // Flushes what is staged.
+    // Flushes what is staged. The caller leads, and does no longer.
     fn flush_store<R: Wait>(&mut self, rt: &R, pass: &mut Pass) -> Result<u64, StoreNo>
         requires admits { Among pass.old self.old.passes }
         ensures notes { (entries : List BookEntry) × Grew entries self.old self.new
@@ -173,19 +163,49 @@ impl<D: Disk + Drop, B: Chronicle<BookEntry> + Drop> Token<D, B> {
         ensures learned { LearnsFront (Learned D.Disk B.Chronicle self.new.first self.new.past)
             result }
     {
-        let before = *pass;
-        let mut store = take_for(rt, &self.table, &mut self.seat, self.number, &before)?;
-        let result = store.flush(pass);
-        give::<Brand, D, B, (), Result<u64, StoreNo>>(
-            &self.table,
-            &mut self.seat,
-            store,
-            before,
-            *pass,
-            &(),
-            &result,
-        );
-        result
+        let place = take_whole_for(rt, &self.inner, &mut self.seat, self.number, pass)?;
+        let Place { mut apart, disk } = place;
+        let Some(disk) = disk else { unreachable!() };
+        match apart.lend(pass) {
+            Lending::Answered(result) => {
+                let place = Place {
+                    apart,
+                    disk: Some(disk),
+                };
+                give::<Brand, D, B, (), Result<u64, StoreNo>>(
+                    &self.inner,
+                    &mut self.seat,
+                    place,
+                    *pass,
+                    *pass,
+                    &(),
+                    &result,
+                );
+                self.inner.joining.end(rt, result.ok());
+                result
+            }
+            Lending::Lent(batch) => {
+                let place = Place { apart, disk: None };
+                give::<Brand, D, B, D, Batch>(
+                    &self.inner,
+                    &mut self.seat,
+                    place,
+                    *pass,
+                    *pass,
+                    &disk,
+                    &batch,
+                );
+                finish(
+                    rt,
+                    &self.inner,
+                    &mut self.seat,
+                    self.number,
+                    pass,
+                    disk,
+                    batch,
+                )
+            }
+        }
     }
 
     /// Reads the log.
@@ -200,17 +220,21 @@ impl<D: Disk + Drop, B: Chronicle<BookEntry> + Drop> Token<D, B> {
             result }
     {
         let before = *pass;
-        let mut store = take_for(rt, &self.table, &mut self.seat, self.number, &before)?;
+        self.inner.joining.lead(rt);
+        let place = take_whole_for(rt, &self.inner, &mut self.seat, self.number, &before)?;
+        let mut store = place.into_store();
         let result = store.redo(pass);
+        let place = Place::of(store);
         give::<Brand, D, B, (), Result<u64, StoreNo>>(
-            &self.table,
+            &self.inner,
             &mut self.seat,
-            store,
+            place,
             before,
             *pass,
             &(),
             &result,
         );
+        self.inner.joining.end(rt, None);
         result
     }
 
@@ -229,17 +253,21 @@ impl<D: Disk + Drop, B: Chronicle<BookEntry> + Drop> Token<D, B> {
         ensures stale { MetLater (generation_of self.new.past) pass.old.generation result }
     {
         let before = *pass;
-        let mut store = take_for(rt, &self.table, &mut self.seat, self.number, &before)?;
+        self.inner.joining.lead(rt);
+        let place = take_whole_for(rt, &self.inner, &mut self.seat, self.number, &before)?;
+        let mut store = place.into_store();
         let result = store.checkpoint(pass, clean);
+        let place = Place::of(store);
         give::<Brand, D, B, bool, Result<Checkpointed, StoreNo>>(
-            &self.table,
+            &self.inner,
             &mut self.seat,
-            store,
+            place,
             before,
             *pass,
             &clean,
             &result,
         );
+        self.inner.joining.end(rt, None);
         result
     }
 
@@ -252,12 +280,12 @@ impl<D: Disk + Drop, B: Chronicle<BookEntry> + Drop> Token<D, B> {
             ⊎ IsPast (generation_of self.new.past) pass.generation }
         ensures left { self.new.passes ≡ without_pass pass.pid pass.generation self.old.passes }
     {
-        let mut store = take(rt, &self.table, &mut self.seat, self.number);
-        if store.generation() != pass.generation {
+        let mut place = take(rt, &self.inner, &mut self.seat, self.number);
+        if place.apart.generation() != pass.generation {
             give::<Brand, D, B, bool, ()>(
-                &self.table,
+                &self.inner,
                 &mut self.seat,
-                store,
+                place,
                 pass,
                 pass,
                 &false,
@@ -265,7 +293,7 @@ impl<D: Disk + Drop, B: Chronicle<BookEntry> + Drop> Token<D, B> {
             );
             return;
         }
-        store.leave(pass);
-        give::<Brand, D, B, bool, ()>(&self.table, &mut self.seat, store, pass, pass, &true, &());
+        place.apart.leave(pass);
+        give::<Brand, D, B, bool, ()>(&self.inner, &mut self.seat, place, pass, pass, &true, &());
     }
 }

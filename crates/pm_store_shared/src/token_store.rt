@@ -1,24 +1,27 @@
-//! A token with leave to wait, which is a store.
+//! A token with leave to wait, which is a store. Its calls tell the writer and the checkpointer what is left to them.
 ghost use Rattle.std.{specs.Prelude.None, proofs.Common.refl};
 ghost use Rattle.pm_segment.specs.{Passes.view_of, pm_query.Book.generation_of};
 ghost use Rattle.pm_store_shared.specs.{Grows.Grew, GrowsLaws.{generation_rises, grew_none, grew_on}, Learned.Learned, LearnedLaws.learned_still, Passes.Among};
 
+use crate::caller::Caller;
 use crate::token::Token;
 use pm_disk::Disk;
-use pm_outside::Chronicle;
+use pm_outside::{Chronicle, Clock};
 use pm_query::{BookEntry, Checkpointed, Seen, Staged, Store, StoreNo};
 use pm_segment::Pass;
 use pm_sql::Script;
 use std::sync::Wait;
 
-/// A token, with the runtime that lets its calls wait.
+/// A token, with the runtime that lets its calls wait, and with what calls the writer and the checkpointer.
 #[derive(Drop)]
-pub struct TokenStore<R: Wait + Drop, D: Disk + Drop, B: Chronicle<BookEntry> + Drop> {
+pub struct TokenStore<R: Wait + Drop, C: Drop, D: Disk + Drop, B: Chronicle<BookEntry> + Drop> {
     pub rt: R,
     pub token: Token<D, B>,
+    pub caller: Caller<C>,
 }
 
-impl<R: Wait + Drop, D: Disk + Drop, B: Chronicle<BookEntry> + Drop> Store for TokenStore<R, D, B> {
+impl<R: Wait + Drop, C: Clock + Drop, D: Disk + Drop, B: Chronicle<BookEntry> + Drop> Store
+    for TokenStore<R, C, D, B> {
     type Pass = Pass;
 
     ghost notes = { λ entries before now. Grew entries before.token now.token };
@@ -35,6 +38,7 @@ impl<R: Wait + Drop, D: Disk + Drop, B: Chronicle<BookEntry> + Drop> Store for T
         store.token.past fact };
 
     fn enter(&mut self, pid: u32, generation: u32) -> Result<Pass, StoreNo> {
+        self.caller.begin();
         self.token.enter(&self.rt, pid, generation)
     }
 
@@ -43,11 +47,18 @@ impl<R: Wait + Drop, D: Disk + Drop, B: Chronicle<BookEntry> + Drop> Store for T
     }
 
     fn seen(&mut self, pass: &mut Pass, front: u64) -> Result<Seen, StoreNo> {
-        self.token.seen(&self.rt, pass, front)
+        let result = self.token.seen(&self.rt, pass, front);
+        self.caller.hear(pass.front, flushed_by(front, result));
+        result
     }
 
     fn flush(&mut self, pass: &mut Pass) -> Result<u64, StoreNo> {
-        self.token.flush(&self.rt, pass)
+        let result = self.token.flush(&self.rt, pass);
+        self.caller.hear(pass.front, result);
+        if self.token.is_told_due() {
+            self.caller.call_checkpointer();
+        }
+        result
     }
 
     fn redo(&mut self, pass: &mut Pass) -> Result<u64, StoreNo> {
@@ -59,7 +70,9 @@ impl<R: Wait + Drop, D: Disk + Drop, B: Chronicle<BookEntry> + Drop> Store for T
     }
 
     fn leave(&mut self, pass: Pass) {
+        let front = pass.front;
         self.token.leave(&self.rt, pass);
+        self.caller.leave(front);
     }
 
     ghost at_rest = { λ store. grew_none store.token };
@@ -72,4 +85,13 @@ impl<R: Wait + Drop, D: Disk + Drop, B: Chronicle<BookEntry> + Drop> Store for T
 
     ghost keeps = { λ before now entries grew. learned_still (record { seen = D.seen; ticks = D.ticks; images = D.images; faults = D.faults })
         (record { entries = B.entries; spare = B.spare }) entries before.token now.token grew };
+}
+
+// Up to where the log is flushed at least, by what was answered of a front.
+fn flushed_by(front: u64, answer: Result<Seen, StoreNo>) -> Result<u64, StoreNo> {
+    match answer {
+        Ok(Seen::Released) => Ok(front),
+        Ok(Seen::NotFlushed { flushed }) => Ok(flushed),
+        Err(no) => Err(no),
+    }
 }

@@ -1,6 +1,6 @@
 //! What the seats of a shared store know. No value of these is made: views exist in proofs alone.
 use pm_query::BookEntry;
-use pm_segment::Pass;
+use pm_segment::{Batch, Pass};
 use std::collections::LinkedList;
 
 /// An entry, with its place in the log. Where it tells that a child is gone, also how often that child was attached just before.
@@ -16,15 +16,24 @@ pub struct Taken<S> {
     pub store: S,
 }
 
+/// What a token has lent of the store: the disk as it was then, for a batch of this generation.
+pub struct Lent<F> {
+    pub disk: F,
+    pub batch: Batch,
+    pub generation: u32,
+}
+
 /// What a token knows: its number, the disk as the store got it, the entries that its calls noted, its passes, all entries
-/// that it found as it took the store last (none before its first call), and the store as it was taken.
-pub struct Hand<S, F> {
+/// that it found as it took the store last (none before its first call), the store as it was taken, and what the token has
+/// lent of it.
+pub struct Hand<S, F, L> {
     pub number: u32,
     pub first: F,
     pub own: LinkedList<Noted>,
     pub passes: LinkedList<Pass>,
     pub past: LinkedList<BookEntry>,
     pub held: Option<Taken<S>>,
+    pub lent: Option<L>,
 }
 
 /// What a token knew as it was joined: the entries that its calls noted, and all that it found last.
@@ -44,13 +53,13 @@ pub struct Desk<S, F> {
     pub held: Option<Taken<S>>,
 }
 
-pub enum View<S, F> {
+pub enum View<S, F, L> {
     /// The shared side, before the table has a store.
     Vacant,
     /// The same, with the slot in its hand.
     Founding,
     Master(Desk<S, F>),
-    Worker(Hand<S, F>),
+    Worker(Hand<S, F, L>),
     /// The seat was taken in by another.
     Spent,
 }

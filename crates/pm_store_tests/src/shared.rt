@@ -1,5 +1,7 @@
 //! Tests of a store that threads share.
 
 mod batch;
+mod beside;
 mod crowd;
+mod left;
 mod world;

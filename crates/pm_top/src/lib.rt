@@ -12,7 +12,7 @@ mod status;
 mod top;
 
 pub use outside::Ended;
-pub use pm_postmaster::slots;
+pub use pm_postmaster::{AUXILIARY_SLOTS, slots};
 pub use pm_query::BookEntry;
 pub use pm_record::RedoFault;
 pub use pm_server::{Conf, Outside, ServerEnd, StartWhy, Why};

@@ -18,7 +18,7 @@ use pm_outside::{Kept, MemClock, MemLink};
 use pm_query::BookEntry;
 use pm_session::SessionConf;
 use pm_spawn::{Threads, join_all, start_all};
-use pm_store_shared::{Shared, TokenStore, Tokens};
+use pm_store_shared::{Caller, Shared, TokenStore, Tokens};
 use pm_supervisor::Reason;
 use pm_worker::{Child, Mail, Tools};
 use std::alloc::{AllocError, Global};
@@ -34,7 +34,7 @@ const SESSIONS: u32 = 200;
 
 type Book = Kept<BookEntry>;
 
-type Store<R> = TokenStore<R, MemDisk, Book>;
+type Store<R> = TokenStore<R, MemClock<R>, MemDisk, Book>;
 
 type Worker<R> = Child<R, MemClock<R>, MemLink, Store<R>>;
 
@@ -62,7 +62,8 @@ fn workers<R: Wait + Abort + time::Clock + Copy + Drop>(
             },
             seed: SEED,
         };
-        works.push_back(Child::new(tools, post, TokenStore { rt, token }))?;
+        let caller = Caller::new(MemClock::still(0, rt), 2, 1);
+        works.push_back(Child::new(tools, post, TokenStore { rt, token, caller }))?;
     }
     Ok(works)
 }

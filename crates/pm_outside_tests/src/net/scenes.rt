@@ -1,5 +1,7 @@
 // What ends a link's waits and the pauses of a server's clocks, and what a client gets at the end: one script.
-use crate::net::world::{World, accept, connect, number, open, parted, said, since_ms, wait_ms};
+use crate::net::world::{
+    CHILD, OTHER, RESTING, World, accept, connect, number, open, parted, said, since_ms, wait_ms,
+};
 use pm_outside::{Clock as _, Got, Link, Port, Put};
 use pm_outside_net::{Bells, TcpLink};
 use std::alloc::Global;
@@ -12,8 +14,8 @@ use std::time::{Clock, Instant};
 
 /// What is done at a port, which `open` opens anew, and what it answers. Links and clients count from 0. From `start` on
 /// `within` says how many milliseconds have passed. `called` does a thing while the link's child is called after so many
-/// milliseconds. `now` shows the links the moment that it is. Where the limit is 0 and none was shown, each read that waits
-/// in vain takes 100 ms.
+/// milliseconds, and `called_later` has a child that rests pause meanwhile. `now` shows the links the moment that it is. Where
+/// the limit is 0 and none was shown, each read that waits in vain takes 100 ms.
 const SCRIPT: &str = "
 # bytes and the end come together
 open
@@ -195,12 +197,27 @@ start
 within 200..60000
 start
 20 child called
-within 0..100";
+within 0..100
+# one that rests pauses for twice as long each time; a call ends its pause while it sleeps, and no sooner
+open
+resting child
+start
+7 child pause
+within 1270..60000
+start
+called_later 300
+within 300..1200
+start
+child pause
+within 0..100
+start
+3 child pause
+within 70..600";
 
-// Calls the link's child after so many milliseconds.
-fn call_later(rt: &impl Clock, bells: &Bells, ms: u64) {
+// Calls the child of this slot after so many milliseconds.
+fn call_later(rt: &impl Clock, bells: &Bells, slot: u32, ms: u64) {
     wait_ms(rt, ms);
-    bells.call(0);
+    bells.call(slot);
 }
 
 // Writes until a write takes nothing, and tells what that answers. 64 MB are more than the sockets take.
@@ -235,9 +252,18 @@ where
     let (went, _) = thread::join(
         rt,
         || waited_in_vain(link, word),
-        || call_later(rt, bells, ms),
+        || call_later(rt, bells, CHILD, ms),
     );
     Ok(went)
+}
+
+// A child that rests pauses, and is called after so many milliseconds.
+fn pause_called<R>(world: &World<R>, ms: u64)
+where
+    R: Threads + Wait + Clock + Copy + Drop + Sync,
+{
+    let (rt, bells, child) = (&world.rt, &world.bells, &world.child);
+    thread::join(rt, || child.pause(), || call_later(rt, bells, RESTING, ms));
 }
 
 // What a link answers: `0 text`.
@@ -312,14 +338,15 @@ where
         "now" => {
             world.clock.now();
         }
-        "call" => world.clock.call(0),
-        "call other" => world.clock.call(1),
+        "call" => world.clock.call(CHILD),
+        "call other" => world.clock.call(OTHER),
         "pause" => world.clock.pause(),
-        "child" => world.child = world.clock.another(0)?,
+        "child" => world.child = world.clock.another(CHILD)?,
+        "resting child" => world.child = world.clock.another(RESTING)?,
         "child ring" => world.child.ring(),
         "child pause" => world.child.pause(),
         "child called" => {
-            world.clock.call(0);
+            world.clock.call(CHILD);
             world.child.pause();
         }
         "door" => world.bells.door.ring(),
@@ -329,12 +356,12 @@ where
     Ok(())
 }
 
-// The same 20 times.
-fn twenty_times<R>(world: &mut World<R>, line: &str) -> Result<(), Fail>
+// The same so many times.
+fn repeated<R>(world: &mut World<R>, times: u64, line: &str) -> Result<(), Fail>
 where
     R: Wait + Clock + Copy + Drop,
 {
-    for _ in 0..20 {
+    for _ in 0..times {
         on_clock(world, line)?;
     }
     Ok(())
@@ -380,7 +407,7 @@ where
 // What is done at a port and at its clocks.
 fn act<R>(alloc: Global, world: &mut World<R>, line: &str) -> Result<(), Fail>
 where
-    R: Net<Stream = TcpStream> + Wait + Clock + Copy + Drop,
+    R: Net<Stream = TcpStream> + Threads + Wait + Clock + Copy + Drop + Sync,
 {
     let (word, rest) = parted(line);
     match word {
@@ -391,7 +418,8 @@ where
         "accept" => taken_by_port(world),
         "limit" => Ok(world.port.limit_entry(number(rest)?)),
         "wait" => Ok(wait_ms(&world.rt, number(rest)?)),
-        "20" => twenty_times(world, rest),
+        "3" | "7" | "20" => repeated(world, number(word)?, rest),
+        "called_later" => Ok(pause_called(world, number(rest)?)),
         _ => on_clock(world, line),
     }
 }

@@ -9,6 +9,15 @@ use std::test::Fail;
 use std::thread;
 use std::time::{Clock, Duration, Instant};
 
+/// The slot whose child rests.
+pub const RESTING: u32 = 0;
+
+/// The slot of the child that the links are for.
+pub const CHILD: u32 = 1;
+
+/// That of another child.
+pub const OTHER: u32 = 2;
+
 /// A port with its server's clock and a child's, its links, their clients, and a start from which time counts.
 #[derive(Drop)]
 pub struct World<R> {
@@ -24,12 +33,19 @@ pub struct World<R> {
 
 /// A free port of this machine, to which nobody has come.
 pub fn open<R: Net + Wait + Clock + Copy + Drop>(rt: R, alloc: Global) -> Result<World<R>, Fail> {
-    let bells = Arc::new(alloc, Bells::new(alloc, 2)?)?;
+    let bells = Arc::new(alloc, Bells::new(alloc, OTHER + 1)?)?;
     let Ok(port) = TcpPort::new(rt, alloc, Arc::try_clone(&bells)?, 0) else {
         return Err(Fail::new("no port"));
     };
-    let clock = ServerClock::new(rt, &rt, alloc, Arc::try_clone(&bells)?, port.descriptor())?;
-    let child = clock.another(0)?;
+    let clock = ServerClock::new(
+        rt,
+        &rt,
+        alloc,
+        Arc::try_clone(&bells)?,
+        port.descriptor(),
+        RESTING + 1,
+    )?;
+    let child = clock.another(CHILD)?;
     Ok(World {
         rt,
         port,
@@ -53,7 +69,7 @@ where
 /// The next link of a port, for which a client stands in line.
 pub fn accept<R: Net + Clock + Drop>(rt: &R, port: &mut TcpPort<R>) -> Result<TcpLink, Fail> {
     for _ in 0..1000 {
-        match port.accept(0) {
+        match port.accept(CHILD) {
             Accepted::Link(link) => return Ok(link),
             Accepted::NotYet => wait_ms(rt, 1),
             Accepted::End | Accepted::Failed => break,

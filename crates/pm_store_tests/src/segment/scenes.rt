@@ -178,6 +178,20 @@ again
 -> opened 1; attached 2; redone 0; answered 1; answered 2; answered 2; answered 2; released 2; detached 2
 child 3 1 redo
 -> 2
+# a row that no staged commit changes is shown at the flushed number, and released at once, unless its child has seen a later one
+staged 0 | 0
+child 2 1 redo / INSERT INTO kv VALUES (7, 'seven') / flush / SELECT k, v FROM kv WHERE k = 7
+-> 0 / flushed 0 / 1 / [Rows(Pairs { pairs: [(7, Text { content: "seven" })] })] front 1
+child 3 1 INSERT INTO kv VALUES (8, 'eight') / SELECT k, v FROM kv WHERE k = 7 / leave
+-> flushed 1 / flushed 1
+child 4 1 SELECT k, v FROM kv WHERE k = 7 / SELECT k, v FROM kv WHERE k = 9 / SELECT k, v FROM kv WHERE k = 8 / SELECT k, v FROM kv WHERE k = 7 / leave
+-> [Rows(Pairs { pairs: [(7, Text { content: "seven" })] })] front 1 / [Rows(Pairs { pairs: [] })] front 1 / flushed 1 / flushed 1
+child 5 1 SELECT count(*) FROM kv / leave
+-> flushed 1
+child 6 1 flush / SELECT k, v FROM kv WHERE k = 8 / leave
+-> 2 / [Rows(Pairs { pairs: [(8, Text { content: "eight" })] })] front 2
+again
+-> opened 1; attached 2; redone 0; answered 1; answered 1; released 1; attached 3; answered 2; answered 2; detached 3; attached 4; answered 1; released 1; answered 1; released 1; answered 2; answered 2; detached 4; attached 5; answered 2; detached 5; attached 6; answered 2; released 2; detached 6
 # a checkpoint flushes first, and what a child staged that died is flushed by another
 staged 0 | 0
 child 2 1 redo / INSERT INTO kv VALUES (7, 'seven') / INSERT INTO kv VALUES (8, 'eight')

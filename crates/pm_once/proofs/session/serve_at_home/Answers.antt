@@ -2,6 +2,7 @@ use Rattle.std.{proofs.Common.{◌≡◌, ℕ, Some, None, Ok, refl, ap, subst, 
 use Rattle.pm_keys.specs.CancelKey.{cancel_key}
 use Rattle.pm_exit.specs.declared.child.Status.{Status}
 use Rattle.pm_once_lives.specs.{pm_child_life.Life.{Child, Told}, Quiet.{quiet_child, quiet_told}}
+use Rattle.pm_segment.specs.Moment.{moment}
 use Rattle.pm_session.specs.{pm_session_exchange.Exchange.link_view, Session.{HasAskedFor, HeedsTold}}
 use Rattle.pm_once.proofs.Sessions.{served_alone}
 use Rattle.pm_once.proofs.session.serve_at_home.Goals as goal
@@ -10,7 +11,7 @@ pub returns : goal.returns
 returns g c =
     let s = c.serve-status.ensures.session in
     let life = c.serve-status.result.life in
-    let home = c.args.store.now.generation in
+    let home = (moment c.args.store.now).generation in
     let pid_is : c.new-life.result.pid ≡ c.args.pid = ap (λ (child : Child). child.pid) c.new-life.ensures.child in
     let given = link_view (g.L.Link.traffic c.args.link) (g.L.Link.number c.args.link) (g.L.Link.faults c.args.link) in
     let back = link_view (g.L.Link.traffic c.serve-status.result.link) (g.L.Link.number c.serve-status.result.link) (g.L.Link.faults c.serve-status.result.link) in

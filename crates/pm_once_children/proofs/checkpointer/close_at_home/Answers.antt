@@ -7,7 +7,7 @@ use Rattle.pm_once_children.proofs.checkpointer.close_at_home.Goals as goal
 
 pub returns-clause-notes : goal.returns-clause-notes
 returns-clause-notes g c =
-    let home = c.args.store.now.generation in
+    let home = (moment c.args.store.now).generation in
     let pid = c.args.pid in
     let life = c.checkpointer-done.new.life in
     let work = c.checkpointer-done.new.store.work in

@@ -7,7 +7,7 @@ use Rattle.pm_once_children.proofs.startup.redo_at_home.Goals as goal
 
 pub returns-clause-notes : goal.returns-clause-notes
 returns-clause-notes g c =
-    let home = c.args.store.now.generation in
+    let home = (moment c.args.store.now).generation in
     let pid = c.args.pid in
     let life = c.startup-done.new.life in
     let work = c.startup-done.new.store.work in

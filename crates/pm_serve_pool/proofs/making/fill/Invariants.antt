@@ -9,6 +9,7 @@ invariant-loop-token g l =
       posts : EachFrom (IsPostOf l.fn.stock.roster.table l.terms.plan.max_connections) 0 l.posts.items;
       count_posts : vec_len l.posts ≡ length l.tokens;
       count_clocks : vec_len l.clocks ≡ length l.tokens;
+      count_callers : vec_len l.callers ≡ length l.tokens;
       gives : All (λ clock. (moment : ℕ) → g.C.Clock.gives clock moment → g.C.Clock.gives l.terms.clock.value moment) l.clocks.items;
       count : length l.works.items + length l.tokens ≡ slots_of l.terms.plan;
       room : slots_of l.terms.plan ≤ l.works.cap;

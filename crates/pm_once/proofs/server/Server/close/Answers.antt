@@ -6,7 +6,7 @@ use Rattle.pm_once.proofs.server.Server.close.Goals as goal
 pub returns-clause-run : goal.returns-clause-run
 returns-clause-run g c =
     let n = c.write_last-closed.ensures.notes in
-    let home = c.args.self.now.store.generation in
+    let home = (view_of c.args.self.now).store.generation in
     let closed = c.write_last-closed in
     let v : View = view_of c.args.self.now in
     let now : View = view_of (record c.args.self.now { store = closed.new.store; outcome = Some (Closed closed.result) }) in (

@@ -6,7 +6,7 @@ use Rattle.pm_once.proofs.server.Server.read.Goals as goal
 pub returns-in-Ok : goal.returns-in-Ok
 returns-in-Ok g c =
     let n = c.in-Ok.ensures.notes in
-    let home = c.args.self.now.store.generation in
+    let home = (view_of c.args.self.now).store.generation in
     let v : View = view_of c.args.self.now in
     let now : View = view_of (record c.args.self.now { store = c.read_log.new.store; outcome = None }) in (
       startup_run c.args.pid home (Ok c.in-Ok.kept) n.0,
@@ -36,7 +36,7 @@ returns-in-Ok g c =
 pub returns-in-Err : goal.returns-in-Err
 returns-in-Err g c =
     let n = c.in-Err.ensures.notes in
-    let home = c.args.self.now.store.generation in
+    let home = (view_of c.args.self.now).store.generation in
     let v : View = view_of c.args.self.now in
     let now : View = view_of (record c.args.self.now { store = c.read_log.new.store; outcome = c.refused-self.result }) in (
       startup_run c.args.pid home (Err c.in-Err.why) n.0,

@@ -9,6 +9,6 @@ returns-clause-notes g c =
     let before = moment c.args.self.now.store.now in
     let now = moment c.redo-redone.new.self in
     let is : c.args.self.now.work ≡ ToRead = search rules in
-    let who = user_of (Some c.args.self.now.store.now.generation) (view_of c.args.pass.now) in
+    let who = user_of (Some (moment c.args.self.now.store.now).generation) (view_of c.args.pass.now) in
     let read = reads_log who c.redo-redone.result notes.0 before now notes.1 notes.2 c.redo-redone.ensures.reason c.redo-redone.ensures.kept c.redo-redone.ensures.unread in
     (notes.0, (refl, subst (λ (work : Work). Does notes.0 work (Redone c.redo-redone.result) before now) (sym is) read), notes.2)

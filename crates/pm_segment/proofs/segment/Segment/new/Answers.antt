@@ -3,16 +3,18 @@ use Rattle.pm_stage.specs.Stage.{Waiting}
 use Rattle.pm_segment.proofs.Opens.{opens_waiting, short_empty}
 use Rattle.pm_segment.proofs.segment.Segment.new.Goals as goal
 
-pub invariant_of-result : goal.invariant_of-result
-invariant_of-result g c = record {
+pub invariant_of-apart : goal.invariant_of-apart
+invariant_of-apart g c = record {
   begun = omega arith;
   short = short_empty c.new-2.result c.new-2.ensures.none;
   limits = c.new-2.ensures.limits;
-  rests = ∣ tt ∣₁;
   behind = ∣ tt ∣₁;
-  at_once = λ _. ap (λ (w : Waiting). w.commits) c.new-3.ensures;
+  ticks = λ disk. refl;
   room = omega (arith, ap length c.new.ensures);
 }
+
+pub invariant_of-result : goal.invariant_of-result
+invariant_of-result g c = record { rests = ∣ tt ∣₁; home = refl; at_once = λ at. ap (λ (w : Waiting). w.commits) c.new-3.ensures }
 
 pub returns-clause-waits : goal.returns-clause-waits
 returns-clause-waits g c = λ no_entry.

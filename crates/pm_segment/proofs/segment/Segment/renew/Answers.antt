@@ -1,40 +1,23 @@
-use Rattle.std.proofs.{Common.{ℕ, List, [], ◌∷◌, ◌++◌, length, map, sym, ap, subst, arith}, lemmas.List.map-append}
-use Rattle.pm_stage.specs.Stage.{Waiting}
-use Rattle.pm_query.specs.declared.book.BookEntry.{BookEntry, TheVariants.{Gone, Opened}}
-use Rattle.pm_segment.{specs.Moment.moment_of, proofs.{Opens.short_empty, Renewals.renews}}
-use Rattle.pm_outside.{specs.Added.Added, proofs.AddedLaws.added_both}
+use Rattle.std.{proofs.{Common.{◌≡◌, ◌∙◌, List, [], Result, Ok, Err}, lemmas.Result.{on_err_weaker, on_ok_weaker}}, specs.Prelude.{OnErr, OnOk}}
 use Rattle.pm_segment.proofs.segment.Segment.renew.Goals as goal
 
-pub invariant_of-self-2 : goal.invariant_of-self-2
-invariant_of-self-2 g c = record {
-  begun = omega (arith, c.requires);
-  short = short_empty c.new-2.result c.new-2.ensures.none;
-  limits = c.new-2.ensures.limits;
-  rests = ∣ tt ∣₁;
-  behind = ∣ tt ∣₁;
-  at_once = λ _. ap (λ (w : Waiting). w.commits) c.new-3.ensures;
-  room = omega (arith, ap length c.new.ensures);
-}
+pub renew-requires-clause-home : goal.renew-requires-clause-home
+renew-requires-clause-home g c = c.args.self.now.home
 
 pub returns-clause-renews : goal.returns-clause-renews
-returns-clause-renews g c =
-    let old = c.args.self.now in
-    let told = g.B.Chronicle.entries old.book in
-    let at = moment_of told old in
-    let gone = c.args.gone.now in
-    let others = c.in_ok-others.others.items in
-    let first = g.B.Chronicle.entries c.note_gone.new.book in
-    let second = g.B.Chronicle.entries c.note_gone-2.new.book in
-    let book_now = g.B.Chronicle.entries c.note.new.self in
-    let opened : BookEntry = Opened c.args.generation in
-    let named = map (λ (pid : ℕ). Gone pid) in
-    let one : Added (named gone) told first = rw c.reserve.ensures.entries at c.note_gone.ensures.entries in
-    let two : Added (named others) first second = rw c.deref.ensures.value at c.note_gone-2.ensures.entries in
-    let both : Added (named (gone ++ others)) told second =
-    subst (λ (l : List BookEntry). Added l told second) (sym (map-append (λ (pid : ℕ). Gone pid) gone others)) (added_both (named gone) (named others) told first second one two) in
-    let all : Added (named (gone ++ others) ++ opened ∷ []) told book_now = added_both (named (gone ++ others)) (opened ∷ []) told second book_now both c.note.ensures.entries in (
-      others,
-      c.in_ok-others.ensures,
-      renews c.history_laws.ensures.past c.history_laws.ensures.present at book_now c.args.generation c.new.result c.new-2.result c.new-3.result.commits gone others c.requires c.new.ensures c.in_ok-others.ensures c.new-2.ensures.none (ap (λ (w : Waiting). w.commits) c.new-3.ensures) old.begun
-          all,
-    )
+returns-clause-renews g c = on_ok_weaker c.renew.result (λ is. (is.0, is.1, is.2 c.args.self.now.commits c.args.self.now.disk)) c.renew.ensures.renews
+
+pub returns-clause-refused : goal.returns-clause-refused
+returns-clause-refused g c = on_err_weaker c.renew.result (λ is. is c.args.self.now.commits c.args.self.now.disk) c.renew.ensures.refused
+
+unstaged_now : {T E X : Type 0} (result : Result T E) (before now : List X) → OnOk result (now ≡ []) → OnErr result (now ≡ before) → before ≡ [] → now ≡ []
+unstaged_now (Ok done) before now ok err none = ok
+unstaged_now (Err refusal) before now ok err none = err ∙ none
+
+pub invariant_of-self : goal.invariant_of-self
+invariant_of-self g c = record {
+  rests = c.renew.ensures.rests c.args.self.now.disk c.args.self.now.rests;
+  home = c.renew.ensures.home;
+  at_once = λ at. unstaged_now c.renew.result c.args.self.now.apart.stage.commits c.renew.new.self.stage.commits c.renew.ensures.unstaged
+      (on_err_weaker c.renew.result (λ is. (is c.args.self.now.commits c.args.self.now.disk).staged) c.renew.ensures.refused) (c.args.self.now.at_once at);
+}

@@ -5,4 +5,4 @@ pub returns : goal.returns
 returns g c =
     let disk = c.args.self.now.disk in
     stays_clean (moment c.args.self.now) (λ live read closed whole.
-    clean_stands (g.D.Disk.seen disk) c.args.self.now.live live c.args.self.now.rows c.args.self.now.stage.commits (g.D.Disk.images disk (g.D.Disk.ticks disk)) c.args.self.now.rests (fronts_of c.args.self.now.live c.args.self.now.stage c.args.self.now.behind) (g.met.D.Disk.reads_as_left disk) read closed whole)
+    clean_stands (g.D.Disk.seen disk) c.args.self.now.apart.live live c.args.self.now.apart.rows c.args.self.now.apart.stage.commits (g.D.Disk.images disk (g.D.Disk.ticks disk)) c.args.self.now.rests (fronts_of c.args.self.now.apart.live c.args.self.now.apart.stage c.args.self.now.apart.behind) (g.met.D.Disk.reads_as_left disk) read closed whole)

@@ -1,18 +1,29 @@
-use Rattle.std.proofs.Common.{rules, [], ◌∷◌, refl, false}
-use Rattle.pm_query.specs.declared.book.BookEntry.{BookEntry, TheVariants.CheckpointEnded}
-use Rattle.pm_segment.{specs.Moment.moment_of, proofs.{Checkpoints.skips, Passing.attends, Steps.{notes_by, stays_put}}}
+use Rattle.pm_segment.specs.ApartLaws.{admits_alone, admits_over}
 use Rattle.pm_segment.proofs.segment.SegmentStore.checkpoint.Goals as goal
 
-pub returns-in_err-reserve-clause-notes : goal.returns-in_err-reserve-clause-notes
-returns-in_err-reserve-clause-notes g c =
-    ([], stays_put (moment_of (g.B.Chronicle.entries c.args.self.now.book) c.args.self.now) (g.B.Chronicle.entries c.reserve.new.self) c.reserve.ensures.entries, search rules)
+pub checkpoint-requires-clause-admits : goal.checkpoint-requires-clause-admits
+checkpoint-requires-clause-admits g c = admits_alone c.args.pass.now c.args.self.now.commits c.args.self.now.disk c.args.self.now.apart c.requires
 
-pub returns-in_default-clause-notes : goal.returns-in_default-clause-notes
-returns-in_default-clause-notes g c =
-    let told = g.B.Chronicle.entries c.args.self.now.book in
-    let entry : BookEntry = CheckpointEnded c.args.pass.now.pid false c.args.clean in (
-      entry ∷ [],
-      skips c.history_laws.ensures.past c.history_laws.ensures.present (moment_of told c.args.self.now) (g.B.Chronicle.entries c.note.new.self) c.args.pass.now.pid c.args.clean c.in_default.is (attends c.args.pass.now (moment_of told c.args.self.now) c.requires)
-          (notes_by entry told _ _ c.reserve.ensures.entries c.note.ensures.entries),
-      refl,
-    )
+pub checkpoint-requires-clause-home : goal.checkpoint-requires-clause-home
+checkpoint-requires-clause-home g c = c.args.self.now.home
+
+pub checkpoint-requires-clause-rests : goal.checkpoint-requires-clause-rests
+checkpoint-requires-clause-rests g c = c.args.self.now.rests
+
+pub invariant_of-self : goal.invariant_of-self
+invariant_of-self g c = record {
+  rests = c.checkpoint.ensures.rests;
+  home = c.checkpoint.ensures.home;
+  at_once = λ at. c.checkpoint.ensures.none (c.args.self.now.at_once at);
+}
+
+pub returns-clause-notes : goal.returns-clause-notes
+returns-clause-notes g c =
+    let noted = c.checkpoint.ensures.notes in
+    (noted.0, noted.1 c.args.self.now.commits, noted.2)
+
+pub returns-clause-admits : goal.returns-clause-admits
+returns-clause-admits g c = admits_over c.args.pass.now c.args.self.now.commits c.checkpoint.new.disk c.checkpoint.new.self c.checkpoint.ensures.admits
+
+pub returns-clause-flushed : goal.returns-clause-flushed
+returns-clause-flushed g c = c.checkpoint.ensures.flushed c.args.self.now.commits

@@ -1,33 +1,25 @@
-use Rattle.std.proofs.Common.{rules, ◌≡◌, ℕ, List, [], ◌∷◌, refl, sym, subst}
-use Rattle.pm_query.specs.declared.book.BookEntry.{BookEntry, TheVariants.Attached}
-use Rattle.pm_segment.{specs.{Moment.moment_of, Moves.Moves}, proofs.Steps.{enters, notes_by, stays_put, with_child}}
-use Rattle.pm_outside.specs.Added.{Added}
+use Rattle.std.proofs.{Common.{◌∙◌, refl}, lemmas.Result.IfOk-weaker}
+use Rattle.pm_segment.specs.ApartLaws.{admits_over}
 use Rattle.pm_segment.proofs.segment.SegmentStore.enter.Goals as goal
+
+pub invariant_of-self : goal.invariant_of-self
+invariant_of-self g c =
+    let grows = c.enter.ensures.notes.1 in
+    record {
+      rests = grows.rests c.args.self.now.disk c.args.self.now.rests;
+      home = grows.lent ∙ c.args.self.now.home;
+      at_once = λ at. c.enter.ensures.rest.2 ∙ c.args.self.now.at_once at;
+    }
 
 pub returns-clause-notes : goal.returns-clause-notes
 returns-clause-notes g c =
-    let present : c.args.generation ≡ c.args.self.now.generation = search (rules, c.if-generation-self.false) in
-    let told = g.B.Chronicle.entries c.args.self.now.book in
-    let at = moment_of told c.args.self.now in
-    let entry : BookEntry = Attached c.args.pid c.args.generation in
-    let notes : Added (entry ∷ []) told (g.B.Chronicle.entries c.note.new.self) = notes_by entry told _ _ c.reserve.ensures.entries c.note.ensures.entries in (
-      entry ∷ [],
-      subst (λ (n : ℕ). Moves (Attached c.args.pid n ∷ []) at (with_child (g.B.Chronicle.entries c.note.new.self) c.add.new.self at)) (sym present)
-          (subst (λ (l : List ℕ). Moves (Attached c.args.pid at.generation ∷ []) at (with_child (g.B.Chronicle.entries c.note.new.self) l at)) (sym c.in_ok-add.ensures.ok)
-          (enters c.history_laws.ensures.past c.history_laws.ensures.present at (g.B.Chronicle.entries c.note.new.self) c.args.pid
-          (subst (λ (n : ℕ). Added (Attached c.args.pid n ∷ []) told (g.B.Chronicle.entries c.note.new.self)) present notes))),
-      refl,
-    )
+    let noted = c.enter.ensures.notes in
+    (noted.0, noted.1.moves c.args.self.now.commits c.args.self.now.disk, noted.2)
 
-pub returns-in_err-reserve-clause-notes : goal.returns-in_err-reserve-clause-notes
-returns-in_err-reserve-clause-notes g c =
-    ([], stays_put (moment_of (g.B.Chronicle.entries c.args.self.now.book) c.args.self.now) (g.B.Chronicle.entries c.reserve.new.self) c.reserve.ensures.entries, search rules)
+pub returns-clause-admits : goal.returns-clause-admits
+returns-clause-admits g c = IfOk-weaker c.enter.result _ _ (λ pass. admits_over pass c.args.self.now.commits c.args.self.now.disk c.enter.new.self) c.enter.ensures.admits
 
-pub returns-in_err-add-clause-notes : goal.returns-in_err-add-clause-notes
-returns-in_err-add-clause-notes g c =
-    let told = g.B.Chronicle.entries c.args.self.now.book in
-    let at = moment_of told c.args.self.now in (
-      [],
-      subst (λ (l : List ℕ). Moves [] at (with_child (g.B.Chronicle.entries c.reserve.new.self) l at)) (sym c.in_err-add.ensures.err) (stays_put at (g.B.Chronicle.entries c.reserve.new.self) c.reserve.ensures.entries),
-      search rules,
-    )
+pub returns-clause-rest : goal.returns-clause-rest
+returns-clause-rest g c =
+    let keeps = c.enter.ensures.rest in
+    (refl, keeps.0, keeps.1, keeps.2)

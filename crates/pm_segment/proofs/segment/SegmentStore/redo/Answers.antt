@@ -1,28 +1,26 @@
-use Rattle.std.{proofs.Common.{[], ◌∷◌, refl, sym, ap, arith}, specs.Prelude.ℕ}
-use Rattle.pm_query.specs.declared.book.BookEntry.{BookEntry, TheVariants.Redone}
-use Rattle.pm_segment.{specs.Moment.moment_of, proofs.{Passing.{attends, inside_still}, Redos.redoes_again, Steps.{not_both, notes_by}}}
+use Rattle.pm_segment.specs.ApartLaws.{admits_alone, admits_over}
 use Rattle.pm_segment.proofs.segment.SegmentStore.redo.Goals as goal
 
-pub returns-in-Some-clause-notes : goal.returns-in-Some-clause-notes
-returns-in-Some-clause-notes g c =
-    let told = g.B.Chronicle.entries c.args.self.now.book in
-    let entry : BookEntry = Redone c.args.pass.now.pid c.args.self.now.generation c.in-Some.live.kept in (
-      entry ∷ [],
-      redoes_again c.history_laws.ensures.past c.history_laws.ensures.present (moment_of told c.args.self.now) c.in-Some.live (g.B.Chronicle.entries c.note.new.self) c.args.pass.now.pid c.in-Some.is
-          (attends c.args.pass.now (moment_of told c.args.self.now) c.requires) (notes_by entry told _ _ c.reserve.ensures.entries c.note.ensures.entries),
-      ap (λ (n : ℕ). Redone c.args.pass.now.pid n c.in-Some.live.kept ∷ []) (sym c.requires.generation_is),
-    )
+pub redo-requires-clause-admits : goal.redo-requires-clause-admits
+redo-requires-clause-admits g c = admits_alone c.args.pass.now c.args.self.now.commits c.args.self.now.disk c.args.self.now.apart c.requires
 
-pub returns-in-Some-clause-admits : goal.returns-in-Some-clause-admits
-returns-in-Some-clause-admits g c =
-    let told = g.B.Chronicle.entries c.args.self.now.book in
-    let entry : BookEntry = Redone c.args.pass.now.pid c.args.self.now.generation c.in-Some.live.kept in record {
-      there = c.requires.there;
-      generation_is = c.requires.generation_is;
-      inside = inside_still c.args.pass.now.pid c.args.pass.now.front entry told (g.B.Chronicle.entries c.note.new.self) (record { present_is = λ es. refl; times = λ n. omega arith })
-          (notes_by entry told _ _ c.reserve.ensures.entries c.note.ensures.entries) c.requires.inside;
-      staged = c.requires.staged;
-    }
+pub redo-requires-clause-home : goal.redo-requires-clause-home
+redo-requires-clause-home g c = c.args.self.now.home
 
-pub returns-in-Some-clause-found : goal.returns-in-Some-clause-found
-returns-in-Some-clause-found g c = λ unread its is. absurd (not_both c.args.self.now.live c.in-Some.live unread c.in-Some.is)
+pub redo-requires-clause-rests : goal.redo-requires-clause-rests
+redo-requires-clause-rests g c = c.args.self.now.rests
+
+pub invariant_of-self : goal.invariant_of-self
+invariant_of-self g c = record {
+  rests = c.redo.ensures.rests;
+  home = c.redo.ensures.home;
+  at_once = λ at. c.redo.ensures.none (c.args.self.now.at_once at);
+}
+
+pub returns-clause-notes : goal.returns-clause-notes
+returns-clause-notes g c =
+    let noted = c.redo.ensures.notes in
+    (noted.0, noted.1 c.args.self.now.commits, noted.2)
+
+pub returns-clause-admits : goal.returns-clause-admits
+returns-clause-admits g c = admits_over c.args.pass.now c.args.self.now.commits c.redo.new.disk c.redo.new.self c.redo.ensures.admits

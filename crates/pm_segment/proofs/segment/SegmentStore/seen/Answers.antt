@@ -1,37 +1,28 @@
-use Rattle.std.proofs.Common.{rules, [], ◌∷◌, refl, arith}
-use Rattle.pm_query.specs.declared.book.BookEntry.{BookEntry, TheVariants.Released}
-use Rattle.pm_segment.{specs.Moment.moment_of, proofs.{Passing.{attends, inside_still, reached_answer}, Steps.{notes_by, releases, stays_put}}}
-use Rattle.pm_outside.specs.Added.{Added}
+use Rattle.std.proofs.Common.{◌∙◌, refl}
+use Rattle.pm_segment.specs.ApartLaws.{admits_alone, admits_over}
 use Rattle.pm_segment.proofs.segment.SegmentStore.seen.Goals as goal
 
-pub returns-in_err-reserve-clause-notes : goal.returns-in_err-reserve-clause-notes
-returns-in_err-reserve-clause-notes g c =
-    ([], stays_put (moment_of (g.B.Chronicle.entries c.args.self.now.book) c.args.self.now) (g.B.Chronicle.entries c.reserve.new.self) c.reserve.ensures.entries, search rules)
+pub seen-requires-clause-admits : goal.seen-requires-clause-admits
+seen-requires-clause-admits g c = admits_alone c.args.pass.now c.args.self.now.commits c.args.self.now.disk c.args.self.now.apart c.requires.admits
 
-pub returns-then-front-live-clause-notes : goal.returns-then-front-live-clause-notes
-returns-then-front-live-clause-notes g c =
-    let told = g.B.Chronicle.entries c.args.self.now.book in
-    let tick = c.in-Some.live.mark in
-    let entry : BookEntry = Released c.args.pass.now.pid c.args.front tick in
-    let notes : Added (entry ∷ []) told (g.B.Chronicle.entries c.note.new.self) = notes_by entry told _ _ c.reserve.ensures.entries c.note.ensures.entries in (
-      entry ∷ [],
-      releases c.history_laws.ensures.past c.history_laws.ensures.present (moment_of told c.args.self.now) c.in-Some.live (g.B.Chronicle.entries c.note.new.self) c.args.pass.now.pid c.args.front
-          c.in-Some.is c.if-front-live.true (attends c.args.pass.now (moment_of told c.args.self.now) c.requires.admits)
-          (reached_answer c.args.pass.now.pid c.args.pass.now.front c.args.front told c.requires.reached c.requires.admits.inside) notes,
-      (tick, refl),
-    )
-
-pub returns-then-front-live-clause-admits : goal.returns-then-front-live-clause-admits
-returns-then-front-live-clause-admits g c =
-    let told = g.B.Chronicle.entries c.args.self.now.book in
-    let entry : BookEntry = Released c.args.pass.now.pid c.args.front c.in-Some.live.mark in record {
-      there = c.requires.admits.there;
-      generation_is = c.requires.admits.generation_is;
-      inside = inside_still c.args.pass.now.pid c.args.pass.now.front entry told (g.B.Chronicle.entries c.note.new.self) (record { present_is = λ es. refl; times = λ n. omega arith })
-          (notes_by entry told _ _ c.reserve.ensures.entries c.note.ensures.entries) c.requires.admits.inside;
-      staged = c.requires.admits.staged;
+pub invariant_of-self : goal.invariant_of-self
+invariant_of-self g c =
+    let grows = c.seen.ensures.notes.1 in
+    record {
+      rests = grows.rests c.args.self.now.disk c.args.self.now.rests;
+      home = grows.lent ∙ c.args.self.now.home;
+      at_once = λ at. c.seen.ensures.rest.2 ∙ c.args.self.now.at_once at;
     }
 
-pub returns-in-Some-since-clause-cause : goal.returns-in-Some-since-clause-cause
-returns-in-Some-since-clause-cause g c =
-    rw c.broken.ensures.answer (c.in-Some.live.log.count, record { its = c.in-Some.live; read = c.in-Some.is; since_is = c.in-Some-since.is; flushed_is = refl; less = c.if-front-live.false })
+pub returns-clause-notes : goal.returns-clause-notes
+returns-clause-notes g c =
+    let noted = c.seen.ensures.notes in
+    (noted.0, noted.1.moves c.args.self.now.commits c.args.self.now.disk, noted.2)
+
+pub returns-clause-admits : goal.returns-clause-admits
+returns-clause-admits g c = admits_over c.seen.new.pass c.args.self.now.commits c.args.self.now.disk c.seen.new.self c.seen.ensures.admits
+
+pub returns-clause-rest : goal.returns-clause-rest
+returns-clause-rest g c =
+    let keeps = c.seen.ensures.rest in
+    (refl, keeps.0, keeps.1, keeps.2)
