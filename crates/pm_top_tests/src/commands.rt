@@ -1,5 +1,6 @@
 //! What the commands say of files, and of words that are no command line.
-use crate::play::{play, words_of};
+use crate::play::play;
+use crate::runs::words_of;
 use pm_top::misfit;
 use std::test::Fail;
 

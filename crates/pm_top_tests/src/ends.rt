@@ -33,14 +33,6 @@ sends 1
 notes Started { pid: 1, kind: Startup } ; Accepted { pid: 2, decision: Startup } ; Exited { pid: 1, kind: Startup, status: Code(1), was_active: false, at: 0 } ; Ended(StartupFailed)
 a CLOSED
 b CLOSED
-# the disk fails under the redo
-files ONE_ROW | CLOSED | 1
-end @never
-$ serve --data=folder --port=5432 --max-connections=2
-ends Abnormal(StartupFailed(Redo(Disk))) 1
-says STARTUP_FAILED ABORTING DISK_FAULT
-a ONE_ROW
-b CLOSED
 # the startup child is killed, where that comes before its redo
 files NEW | CLOSED
 end @log>READY

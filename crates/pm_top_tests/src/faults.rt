@@ -1,6 +1,6 @@
 //! Each call of the disk, of the links and of the sink failing in turn.
 use crate::names::spelled;
-use crate::play::{play, play_scene};
+use crate::play::{play, play_row};
 use std::alloc::Global;
 use std::process::Abort;
 use std::sync::Wait;
@@ -8,164 +8,72 @@ use std::test::Fail;
 use std::thread::Threads;
 use std::time::Clock;
 
+/// A server with two sessions, of which the second is killed at last, and one more in the next generation.
+const SERVED: &str = r"
+# call {0} of `serve` fails
+files NEW | CLOSED
+fail disk {0}
+link @log>READY : PACKET INSERT_SEVEN @never
+link @1>GREETING,KEY_OF_4,INSERTED : PACKET INSERT_EIGHT @log>READY,FAILED_3,NEXT TERMINATE
+link @log>READY,FAILED_3,NEXT : PACKET INSERT_NINE TERMINATE
+end @3>GREETING,KEY_OF_9,INSERTED
+line @2>GREETING,KEY_OF_5,INSERTED : kill 5
+$ serve --data=folder --port=5432 --max-connections=2
+ends
+keeps
+# each call of `serve` fails from call {0} on
+files NEW | CLOSED
+fail from {0}
+link @log>READY : PACKET INSERT_SEVEN @never
+link @1>GREETING,KEY_OF_4,INSERTED : PACKET INSERT_EIGHT @log>READY,FAILED_3,NEXT TERMINATE
+link @log>READY,FAILED_3,NEXT : PACKET INSERT_NINE TERMINATE
+end @3>GREETING,KEY_OF_9,INSERTED
+line @2>GREETING,KEY_OF_5,INSERTED : kill 5
+$ serve --data=folder --port=5432 --max-connections=2
+ends
+keeps";
+
+#[test]
+fn each_call_of_a_served_disk_may_fail(rt: HostRuntime) -> Result<(), Fail> {
+    play(rt, rt.alloc(), SERVED)
+}
+
 /// The call that fails, and what is answered, noted and left.
 const SCENES: &str = r"
-# each call of `initdb`: two lengths, file B, file A behind its gate, and the gate, each with its sync. Behind the last it reads as open
-files ..0 | ..0 | 1
+# call {0} fails of `initdb`, of the next one, and of `once` with three commits and a client after them
+files ..0 | ..0
+fail disk {0}
 $ initdb --data folder
-ends DiskFault 1
-says DISK_FAULT
-a ..0
-b ..0
+ends
+a ..0 | CLOSED HEADER CLOSED | NEW
+b ..0 | CLOSED
 $ initdb --data folder
-ends Done 0
-files ..0 | ..0 | 2
+ends
+$ once --data=folder < PACKET INSERT_SEVEN INSERT_EIGHT INSERT_NINE TERMINATE & PACKET PSQL_SELECT TERMINATE
+ends
+keeps 2
+# each call fails from call {0} on of `initdb` and `once`
+files ..0 | ..0
+fail from {0}
 $ initdb --data folder
-ends DiskFault 1
-says DISK_FAULT
-a ..0
-b ..0
-$ initdb --data folder
-ends Done 0
-files ..0 | ..0 | 3
-$ initdb --data folder
-ends DiskFault 1
-says DISK_FAULT
-a ..0
-b ..0
-$ initdb --data folder
-ends Done 0
-files ..0 | ..0 | 4
-$ initdb --data folder
-ends DiskFault 1
-says DISK_FAULT
-a ..0
-b CLOSED
-$ initdb --data folder
-ends Done 0
-files ..0 | ..0 | 5
-$ initdb --data folder
-ends DiskFault 1
-says DISK_FAULT
-a ..0
-b CLOSED
-$ initdb --data folder
-ends Done 0
-files ..0 | ..0 | 6
-$ initdb --data folder
-ends DiskFault 1
-says DISK_FAULT
-a CLOSED HEADER CLOSED
-b CLOSED
-$ initdb --data folder
-ends Done 0
-files ..0 | ..0 | 7
-$ initdb --data folder
-ends DiskFault 1
-says DISK_FAULT
-a CLOSED HEADER CLOSED
-b CLOSED
-$ initdb --data folder
-ends Done 0
-files ..0 | ..0 | 8
-$ initdb --data folder
-ends DiskFault 1
-says DISK_FAULT
-a OPEN HEADER CLOSED
-b CLOSED
-$ initdb --data folder
-ends Exists 1
-# each call of `controldata`: each file's sync, length and bytes
-files ONE_ROW | BASE_OF_ONE | 1
+ends
+$ once --data=folder < PACKET INSERT_SEVEN INSERT_EIGHT INSERT_NINE TERMINATE
+ends
+keeps
+# call {0} of `controldata` fails
+files NEW | CLOSED
+$ once --data=folder < PACKET INSERT_SEVEN TERMINATE
+fail disk {0}
 $ controldata --data=folder
 ends DiskFault 1
 says DISK_FAULT
 book
-a ONE_ROW
+a ONE_ROW_CLOSED
 b BASE_OF_ONE
-$ controldata --data=folder
-ends Done 0
-says OF_CHECKPOINT
-book
-files ONE_ROW | BASE_OF_ONE | 2
-$ controldata --data=folder
-ends DiskFault 1
-says DISK_FAULT
-book
-a ONE_ROW
-b BASE_OF_ONE
-$ controldata --data=folder
-ends Done 0
-says OF_CHECKPOINT
-book
-files ONE_ROW | BASE_OF_ONE | 3
-$ controldata --data=folder
-ends DiskFault 1
-says DISK_FAULT
-book
-a ONE_ROW
-b BASE_OF_ONE
-$ controldata --data=folder
-ends Done 0
-says OF_CHECKPOINT
-book
-files ONE_ROW | BASE_OF_ONE | 4
-$ controldata --data=folder
-ends DiskFault 1
-says DISK_FAULT
-book
-a ONE_ROW
-b BASE_OF_ONE
-$ controldata --data=folder
-ends Done 0
-says OF_CHECKPOINT
-book
-files ONE_ROW | BASE_OF_ONE | 5
-$ controldata --data=folder
-ends DiskFault 1
-says DISK_FAULT
-book
-a ONE_ROW
-b BASE_OF_ONE
-$ controldata --data=folder
-ends Done 0
-says OF_CHECKPOINT
-book
-files ONE_ROW | BASE_OF_ONE | 6
-$ controldata --data=folder
-ends DiskFault 1
-says DISK_FAULT
-book
-a ONE_ROW
-b BASE_OF_ONE
-$ controldata --data=folder
-ends Done 0
-says OF_CHECKPOINT
-book
-# each call that reads a log of one row: the syncs of both files, their lengths and bytes
-files ONE_ROW | CLOSED | 1
-$ once --data=folder < PACKET SELECT_SEVEN
-ends Abnormal(StartupFailed(Redo(Disk))) 1
-says STARTUP_FAILED ABORTING DISK_FAULT
-links 0
-book OPENED REDO_ATTACHED BROKE_1_AT_5 REDO_DETACHED
-a ONE_ROW
-b CLOSED
-$ once --data=folder < PACKET SELECT_SEVEN SELECT_EIGHT
-ends Done 0
-sends 1 GREETING KEY_OF_4 COLUMNS SEVEN FOUND COLUMNS ABSENT
-files ONE_ROW | CLOSED | 2
-$ once --data=folder < PACKET SELECT_SEVEN
-ends Abnormal(StartupFailed(Redo(Disk))) 1
-says STARTUP_FAILED ABORTING DISK_FAULT
-links 0
-book OPENED REDO_ATTACHED BROKE_1_AT_6 REDO_DETACHED
-a ONE_ROW
-b CLOSED
-$ once --data=folder < PACKET SELECT_SEVEN SELECT_EIGHT
-ends Done 0
-sends 1 GREETING KEY_OF_4 COLUMNS SEVEN FOUND COLUMNS ABSENT
-files ONE_ROW | CLOSED | 3
+keeps
+# a call that reads a log of one row
+files ONE_ROW | CLOSED
+fail disk 3
 $ once --data=folder < PACKET SELECT_SEVEN
 ends Abnormal(StartupFailed(Redo(Disk))) 1
 says STARTUP_FAILED ABORTING DISK_FAULT
@@ -176,158 +84,38 @@ b CLOSED
 $ once --data=folder < PACKET SELECT_SEVEN SELECT_EIGHT
 ends Done 0
 sends 1 GREETING KEY_OF_4 COLUMNS SEVEN FOUND COLUMNS ABSENT
-files ONE_ROW | CLOSED | 4
-$ once --data=folder < PACKET SELECT_SEVEN
-ends Abnormal(StartupFailed(Redo(Disk))) 1
-says STARTUP_FAILED ABORTING DISK_FAULT
-links 0
-book OPENED REDO_ATTACHED BROKE_1_AT_8 REDO_DETACHED
-a ONE_ROW
-b CLOSED
-$ once --data=folder < PACKET SELECT_SEVEN SELECT_EIGHT
-ends Done 0
-sends 1 GREETING KEY_OF_4 COLUMNS SEVEN FOUND COLUMNS ABSENT
-files ONE_ROW | CLOSED | 5
-$ once --data=folder < PACKET SELECT_SEVEN
-ends Abnormal(StartupFailed(Redo(Disk))) 1
-says STARTUP_FAILED ABORTING DISK_FAULT
-links 0
-book OPENED REDO_ATTACHED BROKE_1_AT_9 REDO_DETACHED
-a ONE_ROW
-b CLOSED
-$ once --data=folder < PACKET SELECT_SEVEN SELECT_EIGHT
-ends Done 0
-sends 1 GREETING KEY_OF_4 COLUMNS SEVEN FOUND COLUMNS ABSENT
-files ONE_ROW | CLOSED | 6
-$ once --data=folder < PACKET SELECT_SEVEN
-ends Abnormal(StartupFailed(Redo(Disk))) 1
-says STARTUP_FAILED ABORTING DISK_FAULT
-links 0
-book OPENED REDO_ATTACHED BROKE_1_AT_10 REDO_DETACHED
-a ONE_ROW
-b CLOSED
-$ once --data=folder < PACKET SELECT_SEVEN SELECT_EIGHT
-ends Done 0
-sends 1 GREETING KEY_OF_4 COLUMNS SEVEN FOUND COLUMNS ABSENT
-# each call of the last checkpoint, behind ten for the start and one row. Its row stands, whichever file it is in
-files NEW | CLOSED | 11
-$ once --data=folder < PACKET INSERT_SEVEN TERMINATE
-ends Abnormal(AfterCrash) 1
-says READY SMART FAILED_2 TERMINATING ABNORMAL
-sends 1 GREETING KEY_OF_4 INSERTED
-book STARTED ATTACHED PUTS_SEVEN RELEASED_AT_14 DETACHED CLOSE_ATTACHED BROKE_2_AT_15
-$ once --data=folder < PACKET SELECT_SEVEN SELECT_EIGHT TERMINATE
-ends Done 0
-says PLAIN
-sends 1 GREETING KEY_OF_4 COLUMNS SEVEN FOUND COLUMNS ABSENT
-files NEW | CLOSED | 12
-$ once --data=folder < PACKET INSERT_SEVEN TERMINATE
-ends Abnormal(AfterCrash) 1
-says READY SMART FAILED_2 TERMINATING ABNORMAL
-sends 1 GREETING KEY_OF_4 INSERTED
-book STARTED ATTACHED PUTS_SEVEN RELEASED_AT_14 DETACHED CLOSE_ATTACHED BROKE_2_AT_16
-$ once --data=folder < PACKET SELECT_SEVEN SELECT_EIGHT TERMINATE
-ends Done 0
-says PLAIN
-sends 1 GREETING KEY_OF_4 COLUMNS SEVEN FOUND COLUMNS ABSENT
-files NEW | CLOSED | 13
-$ once --data=folder < PACKET INSERT_SEVEN TERMINATE
-ends Abnormal(AfterCrash) 1
-says READY SMART FAILED_2 TERMINATING ABNORMAL
-sends 1 GREETING KEY_OF_4 INSERTED
-book STARTED ATTACHED PUTS_SEVEN RELEASED_AT_14 DETACHED CLOSE_ATTACHED BROKE_2_AT_17
-$ once --data=folder < PACKET SELECT_SEVEN SELECT_EIGHT TERMINATE
-ends Done 0
-says PLAIN
-sends 1 GREETING KEY_OF_4 COLUMNS SEVEN FOUND COLUMNS ABSENT
-files NEW | CLOSED | 14
+# a call of the last checkpoint, behind ten for the start and one row
+files NEW | CLOSED
+fail disk 14
 $ once --data=folder < PACKET INSERT_SEVEN TERMINATE
 ends Abnormal(AfterCrash) 1
 says READY SMART FAILED_2 TERMINATING ABNORMAL
 sends 1 GREETING KEY_OF_4 INSERTED
 book STARTED ATTACHED PUTS_SEVEN RELEASED_AT_14 DETACHED CLOSE_ATTACHED BROKE_2_AT_18
-$ once --data=folder < PACKET SELECT_SEVEN SELECT_EIGHT TERMINATE
-ends Done 0
-says PLAIN
-sends 1 GREETING KEY_OF_4 COLUMNS SEVEN FOUND COLUMNS ABSENT
-files NEW | CLOSED | 15
-$ once --data=folder < PACKET INSERT_SEVEN TERMINATE
-ends Abnormal(AfterCrash) 1
-says READY SMART FAILED_2 TERMINATING ABNORMAL
-sends 1 GREETING KEY_OF_4 INSERTED
-book STARTED ATTACHED PUTS_SEVEN RELEASED_AT_14 DETACHED CLOSE_ATTACHED BROKE_2_AT_19
-$ once --data=folder < PACKET SELECT_SEVEN SELECT_EIGHT TERMINATE
-ends Done 0
-says PLAIN
-sends 1 GREETING KEY_OF_4 COLUMNS SEVEN FOUND COLUMNS ABSENT
-files NEW | CLOSED | 16
-$ once --data=folder < PACKET INSERT_SEVEN TERMINATE
-ends Abnormal(AfterCrash) 1
-says READY SMART FAILED_2 TERMINATING ABNORMAL
-sends 1 GREETING KEY_OF_4 INSERTED
-book STARTED ATTACHED PUTS_SEVEN RELEASED_AT_14 DETACHED CLOSE_ATTACHED BROKE_2_AT_20
-$ once --data=folder < PACKET SELECT_SEVEN SELECT_EIGHT TERMINATE
-ends Done 0
-says PLAIN
-sends 1 GREETING KEY_OF_4 COLUMNS SEVEN FOUND COLUMNS ABSENT
 # a read fails: of the packet, the insert and the front of the select, and of the rest. A call moves at most 64 bytes
+row 1 | 0 | BASE_OF_NONE
+row 2 | 213 | BASE_OF_ONE
 files NEW | CLOSED
-fail read 1
+fail read {0}
 $ once --data=folder < PACKET INSERT_SEVEN SELECT_SEVEN TERMINATE
 ends Done 0
 says PLAIN
-sends 1 GREETING KEY_OF_4 INSERTED COLUMNS SEVEN FOUND ..0
-b BASE_OF_NONE
-files NEW | CLOSED
-fail read 2
-$ once --data=folder < PACKET INSERT_SEVEN SELECT_SEVEN TERMINATE
-ends Done 0
-says PLAIN
-sends 1 GREETING KEY_OF_4 INSERTED COLUMNS SEVEN FOUND ..213
-b BASE_OF_ONE
+sends 1 GREETING KEY_OF_4 INSERTED COLUMNS SEVEN FOUND ..{1}
+b {2}
 # a write fails: three of the greeting, one of the answer to the insert, which is in the log by then, and two of that to the select
+row 1 | 0 | BASE_OF_NONE
+row 2 | 64 | BASE_OF_NONE
+row 3 | 128 | BASE_OF_NONE
+row 4 | 191 | BASE_OF_ONE
+row 5 | 213 | BASE_OF_ONE
+row 6 | 277 | BASE_OF_ONE
 files NEW | CLOSED
-fail write 1
+fail write {0}
 $ once --data=folder < PACKET INSERT_SEVEN SELECT_SEVEN TERMINATE
 ends Done 0
 says PLAIN
-sends 1 GREETING KEY_OF_4 INSERTED COLUMNS SEVEN FOUND ..0
-b BASE_OF_NONE
-files NEW | CLOSED
-fail write 2
-$ once --data=folder < PACKET INSERT_SEVEN SELECT_SEVEN TERMINATE
-ends Done 0
-says PLAIN
-sends 1 GREETING KEY_OF_4 INSERTED COLUMNS SEVEN FOUND ..64
-b BASE_OF_NONE
-files NEW | CLOSED
-fail write 3
-$ once --data=folder < PACKET INSERT_SEVEN SELECT_SEVEN TERMINATE
-ends Done 0
-says PLAIN
-sends 1 GREETING KEY_OF_4 INSERTED COLUMNS SEVEN FOUND ..128
-b BASE_OF_NONE
-files NEW | CLOSED
-fail write 4
-$ once --data=folder < PACKET INSERT_SEVEN SELECT_SEVEN TERMINATE
-ends Done 0
-says PLAIN
-sends 1 GREETING KEY_OF_4 INSERTED COLUMNS SEVEN FOUND ..191
-b BASE_OF_ONE
-files NEW | CLOSED
-fail write 5
-$ once --data=folder < PACKET INSERT_SEVEN SELECT_SEVEN TERMINATE
-ends Done 0
-says PLAIN
-sends 1 GREETING KEY_OF_4 INSERTED COLUMNS SEVEN FOUND ..213
-b BASE_OF_ONE
-files NEW | CLOSED
-fail write 6
-$ once --data=folder < PACKET INSERT_SEVEN SELECT_SEVEN TERMINATE
-ends Done 0
-says PLAIN
-sends 1 GREETING KEY_OF_4 INSERTED COLUMNS SEVEN FOUND ..277
-b BASE_OF_ONE
+sends 1 GREETING KEY_OF_4 INSERTED COLUMNS SEVEN FOUND ..{1}
+b {2}
 # a fault of the port is passed over
 files NEW | CLOSED
 fail accept 1
@@ -337,188 +125,80 @@ says PLAIN
 sends 1 GREETING KEY_OF_4 INSERTED COLUMNS SEVEN FOUND ..301
 b BASE_OF_ONE
 # a line of `initdb` fails: a write takes at most five bytes
+row 1 | ..0
+row 2 | initi
+row 3 | initialize
 files ..0 | ..0
-fail line 1
+fail line {0}
 $ initdb --data folder
 ends OutFault 1
-says ..0
-a NEW
-b CLOSED
-files ..0 | ..0
-fail line 2
-$ initdb --data folder
-ends OutFault 1
-says initi
-a NEW
-b CLOSED
-files ..0 | ..0
-fail line 3
-$ initdb --data folder
-ends OutFault 1
-says initialize
+says {1}
 a NEW
 b CLOSED
 # a line of `once` over two empty files: the startup child's, the next one, and why
+row 1 | 0
+row 2 | 5
+row 15 | 48
+row 25 | 98
+row 26 | 102
+row 27 | 107
+row 29 | 117
 files ..0 | ..0
-fail line 1
+fail line {0}
 $ once --data=folder < PACKET
 ends Abnormal(StartupFailed(Redo(NoCluster))) 1
-says STARTUP_FAILED ABORTING NO_CLUSTER ..0
-files ..0 | ..0
-fail line 2
-$ once --data=folder < PACKET
-ends Abnormal(StartupFailed(Redo(NoCluster))) 1
-says STARTUP_FAILED ABORTING NO_CLUSTER ..5
-files ..0 | ..0
-fail line 15
-$ once --data=folder < PACKET
-ends Abnormal(StartupFailed(Redo(NoCluster))) 1
-says STARTUP_FAILED ABORTING NO_CLUSTER ..48
-files ..0 | ..0
-fail line 25
-$ once --data=folder < PACKET
-ends Abnormal(StartupFailed(Redo(NoCluster))) 1
-says STARTUP_FAILED ABORTING NO_CLUSTER ..98
-files ..0 | ..0
-fail line 26
-$ once --data=folder < PACKET
-ends Abnormal(StartupFailed(Redo(NoCluster))) 1
-says STARTUP_FAILED ABORTING NO_CLUSTER ..102
-files ..0 | ..0
-fail line 27
-$ once --data=folder < PACKET
-ends Abnormal(StartupFailed(Redo(NoCluster))) 1
-says STARTUP_FAILED ABORTING NO_CLUSTER ..107
-files ..0 | ..0
-fail line 29
-$ once --data=folder < PACKET
-ends Abnormal(StartupFailed(Redo(NoCluster))) 1
-says STARTUP_FAILED ABORTING NO_CLUSTER ..117
+says STARTUP_FAILED ABORTING NO_CLUSTER ..{1}
 # a line of `controldata`: the file, the epoch, clean; the commits, the rows, the batches
+row 1 | 0
+row 2 | 5
+row 3 | 8
+row 4 | 13
+row 5 | 15
+row 6 | 16
+row 7 | 17
+row 8 | 22
+row 9 | 27
+row 10 | 32
+row 11 | 36
+row 12 | 37
+row 13 | 38
+row 14 | 43
+row 15 | 44
+row 16 | 45
+row 17 | 46
+row 18 | 51
+row 19 | 55
+row 20 | 56
 files ONE_ROW | CLOSED
-fail line 1
+fail line {0}
 $ controldata --data=folder
 ends OutFault 1
-says OF_ONE_ROW ..0
-files ONE_ROW | CLOSED
-fail line 2
-$ controldata --data=folder
-ends OutFault 1
-says OF_ONE_ROW ..5
-files ONE_ROW | CLOSED
-fail line 3
-$ controldata --data=folder
-ends OutFault 1
-says OF_ONE_ROW ..8
-files ONE_ROW | CLOSED
-fail line 4
-$ controldata --data=folder
-ends OutFault 1
-says OF_ONE_ROW ..13
-files ONE_ROW | CLOSED
-fail line 5
-$ controldata --data=folder
-ends OutFault 1
-says OF_ONE_ROW ..15
-files ONE_ROW | CLOSED
-fail line 6
-$ controldata --data=folder
-ends OutFault 1
-says OF_ONE_ROW ..16
-files ONE_ROW | CLOSED
-fail line 7
-$ controldata --data=folder
-ends OutFault 1
-says OF_ONE_ROW ..17
-files ONE_ROW | CLOSED
-fail line 8
-$ controldata --data=folder
-ends OutFault 1
-says OF_ONE_ROW ..22
-files ONE_ROW | CLOSED
-fail line 9
-$ controldata --data=folder
-ends OutFault 1
-says OF_ONE_ROW ..27
-files ONE_ROW | CLOSED
-fail line 10
-$ controldata --data=folder
-ends OutFault 1
-says OF_ONE_ROW ..32
-files ONE_ROW | CLOSED
-fail line 11
-$ controldata --data=folder
-ends OutFault 1
-says OF_ONE_ROW ..36
-files ONE_ROW | CLOSED
-fail line 12
-$ controldata --data=folder
-ends OutFault 1
-says OF_ONE_ROW ..37
-files ONE_ROW | CLOSED
-fail line 13
-$ controldata --data=folder
-ends OutFault 1
-says OF_ONE_ROW ..38
-files ONE_ROW | CLOSED
-fail line 14
-$ controldata --data=folder
-ends OutFault 1
-says OF_ONE_ROW ..43
-files ONE_ROW | CLOSED
-fail line 15
-$ controldata --data=folder
-ends OutFault 1
-says OF_ONE_ROW ..44
-files ONE_ROW | CLOSED
-fail line 16
-$ controldata --data=folder
-ends OutFault 1
-says OF_ONE_ROW ..45
-files ONE_ROW | CLOSED
-fail line 17
-$ controldata --data=folder
-ends OutFault 1
-says OF_ONE_ROW ..46
-files ONE_ROW | CLOSED
-fail line 18
-$ controldata --data=folder
-ends OutFault 1
-says OF_ONE_ROW ..51
-files ONE_ROW | CLOSED
-fail line 19
-$ controldata --data=folder
-ends OutFault 1
-says OF_ONE_ROW ..55
-files ONE_ROW | CLOSED
-fail line 20
-$ controldata --data=folder
-ends OutFault 1
-says OF_ONE_ROW ..56";
+says OF_ONE_ROW ..{1}";
 
 #[test]
 fn each_fault_is_answered(rt: HostRuntime) -> Result<(), Fail> {
     play(rt, rt.alloc(), SCENES)
 }
 
-// How much the sink has where its write with this number fails, in a run with a crash and a next generation, which go on as
-// ever.
+/// A run with a crash and a next generation, which go on as ever where that write of the sink fails.
+const WRITTEN: &str = "write {0}
+files NEW | CLOSED
+fail disk 7
+fail line {0}
+$ once --data=folder < PACKET INSERT_SEVEN & PACKET INSERT_SEVEN
+ends Done 0
+sends 1 GREETING KEY_OF_4 PANIC
+sends 2 GREETING KEY_OF_8 INSERTED";
+
+// How much the sink has then.
 fn written<R: Threads + Wait + Clock + Copy + Drop + Send + Abort + 'static>(
     rt: R,
     alloc: Global,
     line: u64,
 ) -> Result<usize, Fail> {
-    let scene = format!(in alloc;
-        "write {line}\n\
-        files NEW | CLOSED | 7\n\
-        fail line {line}\n\
-        $ once --data=folder < PACKET INSERT_SEVEN & PACKET INSERT_SEVEN\n\
-        ends Done 0\n\
-        sends 1 GREETING KEY_OF_4 PANIC\n\
-        sends 2 GREETING KEY_OF_8 INSERTED"
-    )?;
-    let left = play_scene(rt, alloc, scene.as_str())?;
-    let bytes = left.sink.bytes();
+    let row = format!(in alloc; "{line}")?;
+    let stage = play_row(rt, alloc, WRITTEN, row.as_str())?;
+    let bytes = stage.left.sink.bytes();
     assert!(rt;
         spelled(alloc, "CRASH_CYCLE")?.starts_with(bytes),
         "write {line}"

@@ -15,11 +15,17 @@ mod ends;
 #[cfg(test)]
 mod faults;
 #[cfg(test)]
+mod logs;
+#[cfg(test)]
 mod names;
 #[cfg(test)]
 mod noted;
 #[cfg(test)]
+mod past;
+#[cfg(test)]
 mod play;
+#[cfg(test)]
+mod runs;
 #[cfg(test)]
 mod scripts;
 #[cfg(test)]

@@ -9,7 +9,23 @@ pub const SEED: [u8; 32] = [
     0, 0, 0, 0, 0, 0, 0, 0, 0, 0, 0, 0, 0, 0, 0, 0, 0, 0, 0, 0, 0, 0, 0, 0, 0, 0, 0, 0, 0, 0, 0, 1,
 ];
 
-/// `NAME = bytes`, in which escapes stand for theirs, and `NAME := WORD WORD`.
+/// Names of more than one word.
+const LISTS: &str =
+    r"# file A behind `initdb`, behind a commit, and behind a checkpoint; file B behind one of no row, and of one
+NEW = OPEN HEADER CLOSED
+ONE_ROW = OPEN HEADER OPEN PUT_SEVEN CLOSED
+ONE_ROW_CLOSED = CLOSED HEADER OPEN PUT_SEVEN CLOSED
+BASE_OF_NONE = OPEN SECOND_HEADER NO_COMMIT CLOSED
+BASE_OF_ONE = OPEN SECOND_HEADER ONE_COMMIT ROW_SEVEN CLOSED
+# logs of a server
+PLAIN = READY SMART DOWN
+CRASH_CYCLE = READY FAILED_4 TERMINATING REINITIALIZING READY SMART DOWN
+NEXT = TERMINATING REINITIALIZING READY
+# entries of a book
+STARTED = OPENED REDO_ATTACHED REDONE REDO_DETACHED
+CLOSE = CLOSE_ATTACHED CHECKPOINTED CLOSE_DETACHED";
+
+/// `NAME = bytes`, in which escapes stand for theirs.
 const NAMES: &str = r#"# a startup packet with the user `ann`
 PACKET = \0\0\0\x12\0\x03\0\0user\0ann\0\0
 # one without a user
@@ -62,8 +78,11 @@ INSERTED = C\0\0\0\x0fINSERT 0 1\0Z\0\0\0\x05I
 COLUMNS = T\0\0\0\x2e\0\x02k\0\0\0\0\0\0\0\0\0\0\x14\0\x08\xff\xff\xff\xff\0\0v\0\0\0\0\0\0\0\0\0\0\x19\xff\xff\xff\xff\xff\xff\0\0
 SEVEN = D\0\0\0\x14\0\x02\0\0\0\x017\0\0\0\x05seven
 EIGHT = D\0\0\0\x14\0\x02\0\0\0\x018\0\0\0\x05eight
+NINE = D\0\0\0\x13\0\x02\0\0\0\x019\0\0\0\x04nine
 ITS = D\0\0\0\x14\0\x02\0\0\0\x02-3\0\0\0\x04it's
 FOUND = C\0\0\0\x0dSELECT 1\0Z\0\0\0\x05I
+FOUND_2 = C\0\0\0\x0dSELECT 2\0Z\0\0\0\x05I
+FOUND_3 = C\0\0\0\x0dSELECT 3\0Z\0\0\0\x05I
 ABSENT = C\0\0\0\x0dSELECT 0\0Z\0\0\0\x05I
 NO_ROWS = T\0\0\0\x1e\0\x01count\0\0\0\0\0\0\0\0\0\0\x14\0\x08\xff\xff\xff\xff\0\0D\0\0\0\x0b\0\x01\0\0\0\x010C\0\0\0\x0dSELECT 1\0Z\0\0\0\x05I
 SLEPT = T\0\0\0\x21\0\x01pg_sleep\0\0\0\0\0\0\0\0\0\0\x19\xff\xff\xff\xff\xff\xff\0\0D\0\0\0\x0a\0\x01\0\0\0\0C\0\0\0\x0dSELECT 1\0Z\0\0\0\x05I
@@ -106,12 +125,6 @@ ROW_EIGHT = \0\0\0\0\0\0\0\x08\0\0\0\x05eight
 # the length and the body of a commit that puts a row
 PUT_SEVEN = \0\0\0\x18\0\0\0\x01\0\x01\x01\0\0\0\0\0\0\0\x07\0\0\0\x05seven
 PUT_EIGHT = \0\0\0\x18\0\0\0\x01\0\x01\x01\0\0\0\0\0\0\0\x08\0\0\0\x05eight
-# file A behind `initdb`, behind a commit, and behind a checkpoint; file B behind one of no row, and of one
-NEW := OPEN HEADER CLOSED
-ONE_ROW := OPEN HEADER OPEN PUT_SEVEN CLOSED
-ONE_ROW_CLOSED := CLOSED HEADER OPEN PUT_SEVEN CLOSED
-BASE_OF_NONE := OPEN SECOND_HEADER NO_COMMIT CLOSED
-BASE_OF_ONE := OPEN SECOND_HEADER ONE_COMMIT ROW_SEVEN CLOSED
 # lines of the server's log
 READY = LOG:  database system is ready to accept connections\n
 SMART = LOG:  received smart shutdown request\n
@@ -133,12 +146,8 @@ RESTART_OFF = LOG:  shutting down because restart_after_crash is off\n
 ABNORMAL = LOG:  abnormal database system shutdown\n
 STARTUP_FAILED = LOG:  child 1 (startup) exited with exit code 1\n
 STARTUP_KILLED = LOG:  child 1 (startup) was terminated by signal 9\n
-STARTUP_5_FAILED = LOG:  child 5 (startup) exited with exit code 1\n
 ABORTING = LOG:  aborting startup due to startup process failure\n
 NO_CLUSTER = no readable cluster\n
-PLAIN := READY SMART DOWN
-CRASH_CYCLE := READY FAILED_4 TERMINATING REINITIALIZING READY SMART DOWN
-NEXT := TERMINATING REINITIALIZING READY
 # what commands say
 USAGE = usage: initdb --data D | controldata --data D | workload --number N\n       once --data D [OPTIONS] | serve --data D --port P [OPTIONS]\noptions: --max-connections 1..64, --restart-after-crash on|off, --authentication-timeout 1..600\n
 DISK_FAULT = disk fault\n
@@ -152,11 +161,9 @@ OPENED = Opened { generation: 1 }\n
 REDO_ATTACHED = Attached { pid: 1, generation: 1 }\n
 REDONE = Redone { pid: 1, generation: 1, kept: 0 }\n
 REDO_DETACHED = Detached { pid: 1 }\n
-STARTED := OPENED REDO_ATTACHED REDONE REDO_DETACHED
 CLOSE_ATTACHED = Attached { pid: 2, generation: 1 }\n
 CHECKPOINTED = CheckpointEnded { pid: 2, done: true, clean: true }\n
 CLOSE_DETACHED = Detached { pid: 2 }\n
-CLOSE := CLOSE_ATTACHED CHECKPOINTED CLOSE_DETACHED
 ATTACHED = Attached { pid: 4, generation: 1 }\n
 DETACHED = Detached { pid: 4 }\n
 NEXT_ATTACHED = Attached { pid: 5, generation: 1 }\n
@@ -171,34 +178,19 @@ RELEASED_AT_10 = Released { pid: 4, front: 0, tick: 10 }\n
 RELEASED_AT_14 = Released { pid: 4, front: 1, tick: 14 }\n
 NEXT_RELEASED_AT_18 = Released { pid: 5, front: 2, tick: 18 }\n
 # the log broke at this tick, while one of these pids was at it
-BROKE_1_AT_5 = Broke { pid: 1, since: 5, faults: 1 }\n
-BROKE_1_AT_6 = Broke { pid: 1, since: 6, faults: 1 }\n
 BROKE_1_AT_7 = Broke { pid: 1, since: 7, faults: 1 }\n
-BROKE_1_AT_8 = Broke { pid: 1, since: 8, faults: 1 }\n
-BROKE_1_AT_9 = Broke { pid: 1, since: 9, faults: 1 }\n
-BROKE_1_AT_10 = Broke { pid: 1, since: 10, faults: 1 }\n
-BROKE_2_AT_15 = Broke { pid: 2, since: 15, faults: 1 }\n
-BROKE_2_AT_16 = Broke { pid: 2, since: 16, faults: 1 }\n
-BROKE_2_AT_17 = Broke { pid: 2, since: 17, faults: 1 }\n
 BROKE_2_AT_18 = Broke { pid: 2, since: 18, faults: 1 }\n
-BROKE_2_AT_19 = Broke { pid: 2, since: 19, faults: 1 }\n
-BROKE_2_AT_20 = Broke { pid: 2, since: 20, faults: 1 }\n
-BROKE_4_AT_11 = Broke { pid: 4, since: 11, faults: 1 }\n
 BROKE_4_AT_12 = Broke { pid: 4, since: 12, faults: 1 }\n
-BROKE_4_AT_13 = Broke { pid: 4, since: 13, faults: 1 }\n
 BROKE_4_AT_14 = Broke { pid: 4, since: 14, faults: 1 }\n
-BROKE_4_AT_15 = Broke { pid: 4, since: 15, faults: 1 }\n
-BROKE_4_AT_16 = Broke { pid: 4, since: 16, faults: 1 }\n
-BROKE_4_AT_17 = Broke { pid: 4, since: 17, faults: 1 }\n
 BROKE_4_AT_18 = Broke { pid: 4, since: 18, faults: 1 }\n
 # the next generation behind a fault at tick 14: its redo takes six calls more
 NEXT_GENERATION = Gone { pid: 4 }\nOpened { generation: 2 }\nAttached { pid: 5, generation: 2 }\nRedone { pid: 5, generation: 2, kept: 1 }\nDetached { pid: 5 }\nAttached { pid: 8, generation: 2 }\nAnswered { pid: 8, script: Script { stmts: [Select { key: Some(7) }] }, reply: Reply { items: [Rows(Pairs { pairs: [(7, Text { content: "seven" })] })] }, commit: Commit { changes: [] }, front: 1, tick: 20 }\nReleased { pid: 8, front: 1, tick: 20 }\nDetached { pid: 8 }\nAttached { pid: 6, generation: 2 }\nCheckpointEnded { pid: 6, done: true, clean: true }\nDetached { pid: 6 }\n"#;
 
-// What a list of names says after a sign, or the word itself.
-fn meaning<'a>(word: &'a str, sign: &str) -> &'a str {
-    for line in NAMES.lines() {
-        if let Some((name, meaning)) = line.split_once(sign)
-            && name == word
+// What a word stands for by these names, or the word itself.
+fn meaning<'a>(names: &'a str, word: &'a str) -> &'a str {
+    for line in names.lines() {
+        if let Some(rest) = line.strip_prefix(word)
+            && let Some(meaning) = rest.strip_prefix(" = ")
         {
             return meaning;
         }
@@ -217,7 +209,7 @@ fn put(alloc: Global, bytes: &mut Vec<u8>, word: &str) -> Result<(), Fail> {
         return Ok(());
     }
     let (unit, times) = word.split_once('*').unwrap_or((word, "1"));
-    let part = Vec::unescape_bytes(alloc, meaning(unit, " = "))?;
+    let part = Vec::unescape_bytes(alloc, meaning(NAMES, unit))?;
     for _ in 0..number(times)? {
         bytes.extend_from_slice(&part)?;
     }
@@ -228,7 +220,7 @@ fn put(alloc: Global, bytes: &mut Vec<u8>, word: &str) -> Result<(), Fail> {
 pub fn spelled(alloc: Global, words: &str) -> Result<Vec<u8>, Fail> {
     let mut bytes = Vec::new(alloc);
     for word in words.split([' ', ',']) {
-        for part in meaning(word, " := ").split_whitespace() {
+        for part in meaning(LISTS, word).split_whitespace() {
             put(alloc, &mut bytes, part)?;
         }
     }

@@ -1,15 +1,15 @@
-//! Runs of the program over memory, line by line.
+//! Scenes: runs of the program over memory, line by line.
 //!
-//! `files A | B | 7` makes a disk by four calls, of whose calls in the next run the seventh fails; without a number none does.
-//! `$ once --data=folder < WORDS & WORDS` runs that command on the disk as it stands, with a link for each of these WORDS, over which
-//! they come in, and with what the lines in front of it say:
+//! `files A | B` makes a disk by four calls. `$ once --data=folder < WORDS & WORDS` runs that command on the disk as it stands, with a link
+//! for each of these WORDS, over which they come in, and with what the lines in front of it say:
 //!
 //! | line | what it says |
 //! |---|---|
-//! | `breaks 7` | each call of the disk fails from the seventh on |
+//! | `fail disk 7` | the seventh call of the disk from here on fails, whichever run makes it; at 0 none does |
+//! | `fail from 7` | each call of the disk fails from the seventh on |
 //! | `fail read 2` | that read of each link fails; or that `write`, `accept` of the port, or write of a `line` |
 //! | `threads 9` | so many threads can be made, and not 64 |
-//! | `time runs` | a millisecond passes with each pause of the supervisor: else the clock stands still |
+//! | `time runs` | a millisecond passes with each pause of the supervisor: else the clock stands still. Where it `races`, one does with each of a child, too |
 //! | `read CUE`, `write CUE` | the disk's first read or write waits for that |
 //! | `link CUE : WORDS` | a link over which this comes in, before which the port waits for the cue |
 //! | `end CUE` | the port's end waits for that |
@@ -19,7 +19,7 @@
 //!
 //! | word | what it is of |
 //! |---|---|
-//! | `ends` | the status and the exit code |
+//! | `ends` | the status and the exit code; where no such follow, these and the log are among those of docs/OPERATING.md |
 //! | `says` | the sink |
 //! | `links` | how many links came back |
 //! | `sends 2` | what was sent on the link of that number |
@@ -28,129 +28,33 @@
 //! | `book` | all entries of the book, each on a line |
 //! | `a`, `b` | that file |
 //! | `calls` | how many calls the disk has seen |
-use crate::names::{SEED, disk_of, number, spelled};
-use crate::noted::{NotedDisk, NotedSink, WRITES};
+//! | `keeps 3` | the next `once`, on the disk without faults, shows each row whose INSERT was answered on a link so far, and the rows of the first commits alone. So was the link of this number shown before, if it came back |
+//! | `stops \xff` | after each tick of the last run, which inserted all rows, a stop leaves the first commits, and those at least that were acknowledged by then. What isn't durable then is these bytes, over and over, and nothing at `..0` |
+//!
+//! A scene with lines `row A | B` is gone through once for each, with A in place of `{0}` and B in that of `{1}`. One with `{0}` and no
+//! rows is gone through once for each call of the disk that it makes where none fails, with the call's number in that place.
+use crate::logs::ends_so;
+use crate::names::{disk_of, number, spelled};
+use crate::past::Past;
+use crate::runs::{Left, ran};
 use crate::scripts::{Setup, plain};
 use bstr::ByteSlice;
-use pm_disk::{Disk, FailingDisk, MemDisk, Which};
-use pm_outside::{Held, Kept, MemClock, MemConsole, MemPort, Scene};
-use pm_rows::Text;
-use pm_spawn::FewThreads;
-use pm_top::{BookEntry, Ended, Outside, PmEvent, Top, run};
+use pm_disk::{Disk, MemDisk, Which};
+use pm_outside::Kept;
+use pm_top::{BookEntry, PmEvent, RedoFault, StartWhy, Top, Why};
 use std::alloc::Global;
+use std::mem;
 use std::process::Abort;
 use std::sync::Wait;
 use std::test::Fail;
 use std::thread::Threads;
 use std::time::Clock;
 
-/// What a run left.
-#[derive(Drop)]
-pub struct Left {
-    status: Top,
-    port: MemPort,
-    pub sink: NotedSink,
-    journal: Kept<PmEvent>,
-    book: Kept<BookEntry>,
-    disk: MemDisk,
-}
+/// It shows all rows on its first link.
+const ONCE: &str = "once --data=folder < PACKET PSQL_SELECT TERMINATE";
 
-// What stands there before a run.
-fn untouched(alloc: Global, disk: MemDisk) -> Result<Left, Fail> {
-    Ok(Left {
-        status: Top::NoMemory,
-        port: MemPort::new(alloc, Vec::new(alloc), Vec::new(alloc)),
-        sink: NotedSink::new(alloc, Vec::new(alloc), Scene::new(alloc, 0)?),
-        journal: Kept::new(alloc),
-        book: Kept::new(alloc),
-        disk,
-    })
-}
-
-fn clock_of<R: Wait + Clock + Copy + Drop>(
-    rt: R,
-    alloc: Global,
-    runs: bool,
-) -> Result<MemClock<R>, Fail> {
-    if runs {
-        return Ok(MemClock::leading(alloc, 0, rt)?);
-    }
-    Ok(MemClock::still(0, rt))
-}
-
-/// The words of a command line.
-pub fn words_of(alloc: Global, line: &str) -> Result<Vec<Text>, Fail> {
-    let mut words = Vec::new(alloc);
-    for word in line.split_whitespace() {
-        words.push(Text::of(alloc, word)?)?;
-    }
-    Ok(words)
-}
-
-fn ran<R: Threads + Wait + Clock + Copy + Drop + Send + 'static>(
-    rt: R,
-    alloc: Global,
-    disk: MemDisk,
-    command: &str,
-    setup: Setup,
-) -> Result<Left, Fail> {
-    let words = words_of(alloc, command)?;
-    let scene = Scene::new(alloc, WRITES as usize)?;
-    let disk = Held::new(disk, setup.withheld, setup.until, scene.another()?, rt);
-    let outside = Outside {
-        port: MemPort::held(
-            alloc,
-            Some(scene.another()?),
-            setup.links,
-            setup.holds,
-            vec![in alloc; setup.accept]?,
-        ),
-        sink: NotedSink::new(alloc, vec![in alloc; setup.line]?, scene.another()?),
-        disk: NotedDisk {
-            disk: match setup.breaks {
-                true => FailingDisk::fuse(disk, setup.fails.saturating_sub(1)),
-                false => FailingDisk::blip(disk, setup.fails),
-            },
-            scene: scene.another()?,
-        },
-        clock: clock_of(rt, alloc, setup.runs)?,
-        journal: Kept::new(alloc),
-        book: Kept::new(alloc),
-        seed: SEED,
-    };
-    let console = MemConsole::new(setup.lines, Vec::new(alloc), Some(scene));
-    let mut spawner = FewThreads::new(rt, setup.threads);
-    let ended = run(&mut spawner, rt, alloc, &words, outside, console);
-    let Ended {
-        status,
-        outside,
-        ..
-    } = ended;
-    let Outside {
-        port,
-        sink,
-        disk,
-        journal,
-        book,
-        ..
-    } = outside;
-    Ok(Left {
-        status,
-        port,
-        sink,
-        journal,
-        book,
-        disk: disk.disk.into_inner().into_inner(),
-    })
-}
-
-// What was sent on the link of a number.
-fn sent(port: &MemPort, number: u64) -> &[u8] {
-    match port.links().iter().find(|link| link.number() == number) {
-        Some(link) => link.sent(),
-        None => b"(it didn't come back)",
-    }
-}
+/// How it ends where there is no cluster.
+const NO_CLUSTER: Top = Top::Abnormal(Why::StartupFailed(StartWhy::Redo(RedoFault::NoCluster)));
 
 // Each entry as it prints, on a line of its own.
 fn noted(alloc: Global, book: &Kept<BookEntry>) -> Result<Vec<u8>, Fail> {
@@ -181,7 +85,9 @@ fn told(alloc: Global, left: &Left, what: &str) -> Result<Vec<u8>, Fail> {
         "says" => left.sink.bytes(),
         "a" => left.disk.file(Which::A),
         "b" => left.disk.file(Which::B),
-        _ => sent(&left.port, number(what)? as u64),
+        _ => left
+            .sent(number(what)? as u64)
+            .unwrap_or(b"(it didn't come back)"),
     };
     let mut all = Vec::new(alloc);
     all.extend_from_slice(bytes)?;
@@ -207,11 +113,11 @@ fn check<R: Abort>(
     let (what, want) = line.split_once(' ').unwrap_or((line, ""));
     let count = match what {
         "ends" => {
-            let end = format!(in alloc; "{:?} {}", left.status, left.status.code())?;
-            let fits = want.split(" | ").any(|one| one == end.as_str());
+            let fits = ends_so(alloc, left, want)?;
             assert!(rt;
                 fits,
-                "{title}: {line}: {end} {:?} {:?}",
+                "{title}: {line}: {:?} {:?} {:?}",
+                left.status,
                 left.sink.bytes().as_bstr(),
                 left.journal.entries()
             );
@@ -240,38 +146,182 @@ fn check<R: Abort>(
     Ok(())
 }
 
-/// Goes through the lines of a scene after the first, which is its title, and answers what its last run left.
-pub fn play_scene<R: Threads + Wait + Clock + Copy + Drop + Abort + Send + 'static>(
+/// A scene as it goes on: what its next run works on, what the last one left, and what its runs have told of the rows.
+#[derive(Drop)]
+pub struct Stage {
+    setup: Setup,
+    pub left: Left,
+    past: Past,
+}
+
+impl Stage {
+    // Before the first run on a disk.
+    fn new(alloc: Global, disk: MemDisk) -> Result<Stage, Fail> {
+        Ok(Stage {
+            setup: plain(alloc),
+            past: Past::new(alloc, &disk),
+            left: Left::untouched(alloc, disk)?,
+        })
+    }
+
+    // Runs a command on the disk as it stands.
+    fn run<R: Threads + Wait + Clock + Copy + Drop + Send + 'static>(
+        &mut self,
+        rt: R,
+        alloc: Global,
+        line: &str,
+    ) -> Result<(), Fail> {
+        let mut setup = mem::replace(&mut self.setup, plain(alloc));
+        let mut faults = setup.faults;
+        let command = setup.take_links(alloc, line)?;
+        let none = Left::untouched(alloc, MemDisk::new(alloc))?;
+        let last = mem::replace(&mut self.left, none);
+        let Left { disk, .. } = last;
+        self.left = ran(rt, alloc, disk, command, setup)?;
+        faults.calls = faults.calls.saturating_add(self.left.calls);
+        self.setup.faults = faults;
+        self.past.read(&self.left)
+    }
+
+    // Whether the link of this number was shown what stands, if it came back.
+    fn was_shown(&self, alloc: Global, link: &str) -> Result<bool, Fail> {
+        match self.left.sent(number(link)? as u64) {
+            Some(sent) => self.past.is_shown(alloc, sent, self.past.told()),
+            None => Ok(true),
+        }
+    }
+
+    // Looks at what this link was shown, if any, and at what the next `once` shows.
+    fn keep<R: Threads + Wait + Clock + Copy + Drop + Abort + Send + 'static>(
+        &mut self,
+        rt: R,
+        alloc: Global,
+        title: &str,
+        link: &str,
+    ) -> Result<(), Fail> {
+        if !link.is_empty() {
+            let was_shown = self.was_shown(alloc, link)?;
+            assert!(rt; was_shown, "{title}: keeps {link}");
+        }
+        let may_be_none = !self.past.is_made;
+        self.setup = plain(alloc);
+        self.run(rt, alloc, ONCE)?;
+        let status = self.left.status;
+        let is_kept = match status {
+            Top::Done => self.left.port.links().len() == 1 && self.was_shown(alloc, "1")?,
+            _ => may_be_none && status == NO_CLUSTER,
+        };
+        assert!(rt; is_kept, "{title}: keeps: {status:?}");
+        Ok(())
+    }
+
+    // Looks at what a stop leaves after each tick of the last run.
+    fn stop<R: Threads + Wait + Clock + Copy + Drop + Abort + Send + 'static>(
+        &self,
+        rt: R,
+        alloc: Global,
+        title: &str,
+        fill: &str,
+    ) -> Result<(), Fail> {
+        let bytes = spelled(alloc, fill)?;
+        let beyond = if bytes.is_empty() { 0 } else { u64::MAX };
+        for tick in self.left.began..=self.left.disk.ticks() {
+            let disk = self.left.disk.after_stop(tick, &bytes, beyond)?;
+            let mut past = Past::new(alloc, &disk);
+            past.note_until(self.left.book.entries(), tick)?;
+            let mut next = Stage::new(alloc, disk)?;
+            next.run(rt, alloc, ONCE)?;
+            let sent = next.left.sent(1).unwrap_or(b"");
+            let is_shown = past.is_shown(alloc, sent, past.acked)?;
+            let status = next.left.status;
+            assert!(rt;
+                is_shown && status == Top::Done,
+                "{title}: stops {fill} after {tick}: {status:?} {:?}",
+                sent.as_bstr()
+            );
+        }
+        Ok(())
+    }
+}
+
+// Goes through the lines of a scene after the first, which is its title, and looks at what is to stand, or doesn't.
+fn play_lines<R: Threads + Wait + Clock + Copy + Drop + Abort + Send + 'static>(
     rt: R,
     alloc: Global,
     scene: &str,
-) -> Result<Left, Fail> {
+    looks: bool,
+) -> Result<Stage, Fail> {
     let (title, lines) = scene.split_once('\n').unwrap_or((scene, ""));
-    let mut left = untouched(alloc, MemDisk::new(alloc))?;
-    let mut setup = plain(alloc);
+    let mut stage = Stage::new(alloc, MemDisk::new(alloc))?;
     for line in lines.lines() {
         let (word, rest) = line.split_once(' ').unwrap_or((line, ""));
         match word {
             "files" => {
-                let (a, rest) = rest.split_once(" | ").ok_or("file B")?;
-                let (b, at) = rest.split_once(" | ").unwrap_or((rest, "0"));
-                setup.fails = number(at)? as u64;
-                left = untouched(alloc, disk_of(alloc, a, b)?)?;
+                let (a, b) = rest.split_once(" | ").ok_or("file B")?;
+                stage = Stage::new(alloc, disk_of(alloc, a, b)?)?;
             }
-            "$" => {
-                let command = setup.take_links(alloc, rest)?;
-                let Left { disk, .. } = left;
-                left = ran(rt, alloc, disk, command, setup)?;
-                setup = plain(alloc);
-            }
+            "$" => stage.run(rt, alloc, rest)?,
+            "row" => {}
+            "keeps" if looks => stage.keep(rt, alloc, title, rest)?,
+            "stops" if looks => stage.stop(rt, alloc, title, rest)?,
             _ => {
-                if !setup.add(alloc, word, rest)? {
-                    check(&rt, alloc, title, &left, line)?;
+                if !stage.setup.add(alloc, word, rest)? && looks {
+                    check(&rt, alloc, title, &stage.left, line)?;
                 }
             }
         }
     }
-    Ok(left)
+    Ok(stage)
+}
+
+/// Goes through the lines of a scene after the first, which is its title, with the parts of a row in place of `{0}`, `{1}` and so on.
+pub fn play_row<R: Threads + Wait + Clock + Copy + Drop + Abort + Send + 'static>(
+    rt: R,
+    alloc: Global,
+    scene: &str,
+    row: &str,
+) -> Result<Stage, Fail> {
+    let mut text = String::from_str(alloc, scene)?;
+    for (place, part) in row.split(" | ").enumerate() {
+        let place = format!(in alloc; "{{{place}}}")?;
+        text = text.as_str().replace(alloc, place.as_str(), part)?;
+    }
+    play_lines(rt, alloc, text.as_str(), true)
+}
+
+// Goes through a scene for each call of the disk that a run makes of which none fails.
+fn play_calls<R: Threads + Wait + Clock + Copy + Drop + Abort + Send + 'static>(
+    rt: R,
+    alloc: Global,
+    scene: &str,
+) -> Result<(), Fail> {
+    let clean = scene.replace(alloc, "{0}", "0")?;
+    let Stage { setup, .. } = play_lines(rt, alloc, clean.as_str(), false)?;
+    assert!(rt; setup.faults.calls > 0, "{clean}");
+    for call in 1..=setup.faults.calls {
+        let row = format!(in alloc; "{call}")?;
+        let _stage = play_row(rt, alloc, scene, row.as_str())?;
+    }
+    Ok(())
+}
+
+// Goes through a scene, once for each of its rows, if it has some.
+fn play_scene<R: Threads + Wait + Clock + Copy + Drop + Abort + Send + 'static>(
+    rt: R,
+    alloc: Global,
+    scene: &str,
+) -> Result<(), Fail> {
+    if !scene.contains("{0}") {
+        let _stage = play_lines(rt, alloc, scene, true)?;
+        return Ok(());
+    }
+    if !scene.contains("\nrow ") {
+        return play_calls(rt, alloc, scene);
+    }
+    for row in scene.lines().filter_map(|line| line.strip_prefix("row ")) {
+        let _stage = play_row(rt, alloc, scene, row)?;
+    }
+    Ok(())
 }
 
 /// Goes through the scenes, each of which begins with a line of its own after `# `.
@@ -281,7 +331,7 @@ pub fn play<R: Threads + Wait + Clock + Copy + Drop + Abort + Send + 'static>(
     scenes: &str,
 ) -> Result<(), Fail> {
     for scene in scenes.split("# ") {
-        let _left = play_scene(rt, alloc, scene)?;
+        play_scene(rt, alloc, scene)?;
     }
     Ok(())
 }

@@ -5,28 +5,61 @@
 //! `@never` for what doesn't come.
 use crate::names::{number, spelled};
 use crate::noted::{LOG, READS, WRITES};
+use pm_disk::{Disk, FailingDisk};
 use pm_outside::{Cue, Hold, LinkScript, ScriptLine, Withheld};
+use pm_rows::Text;
 use std::alloc::Global;
 use std::test::Fail;
+
+/// Which calls of the disk fail, over one run or more.
+#[derive(Clone, Copy)]
+pub struct Faults {
+    /// The number of the one that does; at 0 none does.
+    pub at: u64,
+    /// Whether each after it does too.
+    pub breaks: bool,
+    /// How many calls there were since this was said.
+    pub calls: u64,
+}
+
+impl Faults {
+    /// A disk over another one, of whose calls these fail.
+    pub fn over<D: Disk>(self, disk: D) -> FailingDisk<D> {
+        if self.breaks && self.at > 0 {
+            return FailingDisk::fuse(disk, self.at.saturating_sub(1).saturating_sub(self.calls));
+        }
+        FailingDisk::blip(disk, self.at.saturating_sub(self.calls))
+    }
+}
+
+/// With whose pauses a millisecond passes.
+#[derive(Clone, Copy)]
+pub enum Time {
+    /// With nobody's.
+    Stands,
+    /// With the supervisor's.
+    Runs,
+    /// With those of its children, too.
+    Races,
+}
 
 /// What the next run works on. Calls that fail count from 1, so at 0 none does.
 #[derive(Drop)]
 pub struct Setup {
     pub threads: u64,
-    /// Whether time passes: a millisecond with each pause of the supervisor.
-    pub runs: bool,
+    pub time: Time,
     /// Which call of the disk waits, and for what.
     pub withheld: Withheld,
     pub until: Cue,
-    /// The number of the call of the disk that fails, and whether each after it does.
-    pub fails: u64,
-    pub breaks: bool,
+    pub faults: Faults,
     /// Which accept of the port fails, which read and which write of each link, and which write of the sink.
     pub accept: u64,
     pub read: u64,
     pub write: u64,
     pub line: u64,
     pub links: Vec<LinkScript>,
+    /// The words of each link.
+    pub asked: Vec<Text>,
     /// Where the port waits.
     pub holds: Vec<Hold>,
     pub lines: Vec<ScriptLine>,
@@ -36,16 +69,20 @@ pub struct Setup {
 pub fn plain(alloc: Global) -> Setup {
     Setup {
         threads: 64,
-        runs: false,
+        time: Time::Stands,
         withheld: Withheld::FirstRead,
         until: Cue::Lines(0),
-        fails: 0,
-        breaks: false,
+        faults: Faults {
+            at: 0,
+            breaks: false,
+            calls: 0,
+        },
         accept: 0,
         read: 0,
         write: 0,
         line: 0,
         links: Vec::new(alloc),
+        asked: Vec::new(alloc),
         holds: Vec::new(alloc),
         lines: Vec::new(alloc),
     }
@@ -93,6 +130,7 @@ impl Setup {
             holds,
         };
         self.links.push(link)?;
+        self.asked.push(Text::of(alloc, words)?)?;
         Ok(())
     }
 
@@ -115,11 +153,19 @@ impl Setup {
         Ok(())
     }
 
-    // That call fails of the port, of each link that is added after it, or of the sink.
+    // That call fails of the disk, or each from there on; or that one of the port, of each link that is added after it, or of the sink.
     fn let_fail(&mut self, words: &str) -> Result<(), Fail> {
         let (what, at) = words.split_once(' ').ok_or("which one fails")?;
         let at = number(at)? as u64;
         match what {
+            "disk" | "from" => {
+                let breaks = what == "from";
+                self.faults = Faults {
+                    at,
+                    breaks,
+                    calls: 0,
+                };
+            }
             "accept" => self.accept = at,
             "read" => self.read = at,
             "write" => self.write = at,
@@ -143,11 +189,8 @@ impl Setup {
     pub fn add(&mut self, alloc: Global, word: &str, rest: &str) -> Result<bool, Fail> {
         match word {
             "threads" => self.threads = number(rest)? as u64,
-            "time" => self.runs = true,
-            "breaks" => {
-                self.fails = number(rest)? as u64;
-                self.breaks = true;
-            }
+            "time" if rest == "runs" => self.time = Time::Runs,
+            "time" => self.time = Time::Races,
             "fail" => self.let_fail(rest)?,
             "read" | "write" => {
                 self.withheld = match word {
