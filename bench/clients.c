@@ -1,6 +1,8 @@
-// Clients that ask a server at a port of 127.0.0.1 simple queries, each once the one before is answered. bench/serve compiles it.
+// Clients that ask a server at a port of 127.0.0.1 simple queries, each once the one before is answered. bench/serve and bench/beside
+// compile it.
 //
-// clients PORT KIND COUNT SECONDS FIRST     COUNT clients at once, for so many seconds; prints how many a second were answered
+// clients PORT KIND COUNT SECONDS FIRST     COUNT clients at once, for so many seconds; prints how many a second were answered,
+//                                           and after how many microseconds half of them were, and 99 of 100
 //   select    a row by its key, of the FIRST keys from 0 on
 //   insert    a row of a new key, from FIRST on, and 90,000 of them at most, since a table has its limit
 //   connect   no query: a connection, its greeting, and its end
@@ -20,7 +22,10 @@ static int port;
 static const char *kind;
 static double seconds;
 static long first, most;
-static long answered[MOST];
+static struct answers {
+    long count, room;
+    unsigned *micros;
+} answered[MOST];
 static pthread_barrier_t begin;
 
 static double now(void)
@@ -111,6 +116,18 @@ static void ask(struct line *line, const char *text)
     hear(line);
 }
 
+// Notes an answer that took so long.
+static void note(struct answers *mine, double took)
+{
+    if (mine->count == mine->room) {
+        mine->room = mine->room ? 2 * mine->room : 4096;
+        mine->micros = realloc(mine->micros, mine->room * sizeof *mine->micros);
+        if (!mine->micros)
+            give_up("out of memory");
+    }
+    mine->micros[mine->count++] = took * 1e6;
+}
+
 static void *client(void *number)
 {
     long mine = (long)number, done = 0;
@@ -123,7 +140,8 @@ static void *client(void *number)
     if (!connects)
         open_line(line);
     pthread_barrier_wait(&begin);
-    for (double end = now() + seconds; now() < end && !(inserts && done == most); done++) {
+    double asked = now();
+    for (double end = asked + seconds; asked < end && !(inserts && done == most); done++) {
         if (connects) {
             open_line(line);
             close_line(line);
@@ -134,11 +152,37 @@ static void *client(void *number)
                 snprintf(text, sizeof text, "SELECT k, v FROM kv WHERE k = %ld", rand_r(&random) % first);
             ask(line, text);
         }
+        double then = now();
+        note(&answered[mine], then - asked);
+        asked = then;
     }
-    answered[mine] = done;
     if (!connects)
         close_line(line);
     return 0;
+}
+
+static int by_size(const void *a, const void *b)
+{
+    unsigned one = *(const unsigned *)a, other = *(const unsigned *)b;
+    return (one > other) - (one < other);
+}
+
+// All that the clients noted, from the shortest on.
+static struct answers all_of(long clients)
+{
+    struct answers all = {0, 0, 0};
+    for (long i = 0; i < clients; i++)
+        all.room += answered[i].count;
+    all.micros = malloc((all.room + 1) * sizeof *all.micros);
+    if (!all.micros)
+        give_up("out of memory");
+    for (long i = 0; i < clients; i++) {
+        if (answered[i].count)
+            memcpy(all.micros + all.count, answered[i].micros, answered[i].count * sizeof *all.micros);
+        all.count += answered[i].count;
+    }
+    qsort(all.micros, all.count, sizeof *all.micros, by_size);
+    return all;
 }
 
 int main(int count, char **words)
@@ -148,7 +192,7 @@ int main(int count, char **words)
         give_up("usage: clients PORT KIND COUNT SECONDS FIRST");
     port = atoi(words[1]);
     kind = words[2];
-    long clients = atol(words[3]), all = 0;
+    long clients = atol(words[3]);
     seconds = atof(words[4]);
     first = atol(words[5]);
     if (clients < 1 || clients > MOST)
@@ -163,7 +207,8 @@ int main(int count, char **words)
     for (long i = 0; i < clients; i++)
         pthread_join(threads[i], 0);
     double took = now() - from;
-    for (long i = 0; i < clients; i++)
-        all += answered[i];
-    printf("%.0f\n", all / took);
+    struct answers all = all_of(clients);
+    if (!all.count)
+        give_up("nothing was answered");
+    printf("%.0f %u %u\n", all.count / took, all.micros[all.count / 2], all.micros[all.count * 99 / 100]);
 }
