@@ -18,7 +18,7 @@ checkpoint_still (Some files) log rows clean tick images = λ content lives is t
     inl (means_now log.file content log.end files (images tick) lives.rests image (subst (λ (n : ℕ). images n image) same there))
 
 -- the base of a checkpoint keeps the limits where its rows do
-checkpointed_is : (content : Content) (clean : Bool) (rows : RowMap) → rows ≡ (standing_of content).rows → All IsRow (map.entries rows) → IsWithinRowLimits rows
+pub checkpointed_is : (content : Content) (clean : Bool) (rows : RowMap) → rows ≡ (standing_of content).rows → All IsRow (map.entries rows) → IsWithinRowLimits rows
     → IsContent content → content.epoch + 1 < 2 ^ 64 → IsContent (checkpointed content clean)
 checkpointed_is content clean rows is each whole kept small = record {
   epoch = small;
@@ -63,7 +63,7 @@ LivesThere log new rows clean before now files files_now =
 pub checkpoint_lives : (before now : Option Files) (log new : Log) (rows : RowMap) (clean : Bool) (bytes : List ℕ) (i k : Files → Type 0)
     → TellsStill (λ files files_now. HasMoved log.file bytes files files_now i k) before now → bytes ≡ 1 ∷ (base_bytes (log.epoch + 1) clean log.count rows ++ (0 ∷ [])) → log.epoch + 1 < 2 ^ 64
     → All IsRow (map.entries rows) → IsWithinRowLimits rows
-    → new ≡ record { file = other log.file; epoch = log.epoch + 1; base_end = length bytes - 1; end = length bytes - 1; count = log.count; limit = log.limit; since = None }
+    → new ≡ record { file = other log.file; epoch = log.epoch + 1; base_end = length bytes - 1; end = length bytes - 1; count = log.count; limit = log.limit; since = None; making = None }
     → TellsStill (LivesThere log new rows clean i k) before now
 checkpoint_lives None now log new rows clean bytes i k moved spelled small each whole is_new = moved
 checkpoint_lives (Some files) None log new rows clean bytes i k moved spelled small each whole is_new = moved
@@ -81,10 +81,11 @@ checkpoint_lives (Some files) (Some files_now) log new rows clean bytes i k move
     })
 
 -- the log's fields once it has moved
-abbrev pub log_at : Log → Which → ℕ → Option ℕ → Log
-log_at log file long since = record { file = file; epoch = log.epoch + 1; base_end = long - 1; end = long - 1; count = log.count; limit = log.limit; since = since }
+abbrev pub log_at : Log → Which → ℕ → Option ℕ → Option ℕ → Log
+log_at log file long since making = record { file = file; epoch = log.epoch + 1; base_end = long - 1; end = long - 1; count = log.count; limit = log.limit; since = since; making = making }
 
-pub moved_log : (log : Log) (file next : Which) (long length : ℕ) (since : Option ℕ) → file ≡ next → long ≡ length → since ≡ None
-    → log_at log file long since ≡ log_at log next length None
-moved_log log file next long length since is same none =
-    ap (λ (w : Which). log_at log w long since) is ∙ ap (λ (n : ℕ). log_at log next n since) same ∙ ap (λ (s : Option ℕ). log_at log next length s) none
+pub moved_log : (log : Log) (file next : Which) (long length : ℕ) (since making : Option ℕ) → file ≡ next → long ≡ length → since ≡ None → making ≡ None
+    → log_at log file long since making ≡ log_at log next length None None
+moved_log log file next long length since making is same none alone =
+    ap (λ (w : Which). log_at log w long since making) is ∙ ap (λ (n : ℕ). log_at log next n since making) same ∙ ap (λ (s : Option ℕ). log_at log next length s making) none
+    ∙ ap (λ (m : Option ℕ). log_at log next length None m) alone

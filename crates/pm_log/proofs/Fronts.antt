@@ -4,7 +4,7 @@ use Rattle.pm_record.specs.{pm_rows.{declared.commit.Change.Change, Fold.{commit
 use Rattle.pm_log.proofs.BatchLaws.{commits_push}
 
 -- one batch more
-AreBatches-push : (bytes : List ℕ) (batches : List (List (List Change))) (batch : List (List Change)) (gate : ℕ) → gate ≢ 0 → AreBatches bytes batches
+pub AreBatches-push : (bytes : List ℕ) (batches : List (List (List Change))) (batch : List (List Change)) (gate : ℕ) → gate ≢ 0 → AreBatches bytes batches
     → AreBatches (bytes ++ (gate ∷ batch_bytes batch)) (batches ++ batch ∷ [])
 AreBatches-push bytes [] batch gate is_open none =
     (gate, [], is_open, ap (λ (l : List ℕ). l ++ (gate ∷ batch_bytes batch)) none ∙ ap (λ (l : List ℕ). gate ∷ l) (sym (append-nil (batch_bytes batch))), refl)
@@ -37,6 +37,16 @@ MayFollow-append standing xs ys first second = record {
         subst (λ (l : List (List Change)). IsWithinRowLimits (folded standing.rows l)) (sym (take-append-le n xs ys within)) (first.limits n within)
   ];
   number = omega (arith, second.number, length-append xs ys);
+}
+
+-- what may follow a front of commits may follow what stands after that
+pub MayFollow-after : (standing : Standing) (xs ys : List (List Change)) → MayFollow standing (xs ++ ys) → MayFollow (after standing xs) ys
+MayFollow-after standing xs ys may = record {
+  limits = λ n le.
+      subst IsWithinRowLimits
+      (ap (λ (l : List (List Change)). folded standing.rows l) (take-append-add xs ys n) ∙ fold-append committed standing.rows xs (take n ys))
+      (may.limits (length xs + n) (omega (arith, le, length-append xs ys)));
+  number = omega (arith, may.number, length-append xs ys);
 }
 
 pub content-push : (content : Content) (batch : List (List Change)) → IsContent content → MayAppend (standing_of content) batch → IsContent (with_batch content batch)

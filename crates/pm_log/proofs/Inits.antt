@@ -2,7 +2,7 @@
 use Rattle.std.{proofs.{Common.{◌≡◌, ◌≢◌, ◌⊎◌, inl, inr, ℕ, zero, suc, ◌+◌, ◌≤◌, ◌<◌, true, List, [], ◌∷◌, ◌++◌, length, take, drop, refl, sym, ◌∙◌, ap, ap₂, subst, arith, append_assoc}, lemmas.{Bool.cases_lt, List.{length-drop, nil_from_length}}}, specs.{Prelude.{slice_get, sum_by, Option, Some, None, IfSome, option_map, ℤ}, Int.{w32, w64, to_be_bytes}, List.flat_map, Map.values_of, Ordering.int_cmp}}
 use Rattle.std.specs.FinMap as map
 use Rattle.pm_record.{specs.{pm_disk.{declared.disk.Which.TheVariants.{A, B}, Files.{Files, file_of, overwritten}, Disk.{Only, TellsStill, Torn}}, pm_rows.{Fold.{RowMap, folded}, Limits.IsWithinRowLimits, Size.{row_size, size_of}}, Spelling.{base_bytes, row_bytes, rows_bytes}, StandsFor.{IsContent, StandsFor}, Pair.IsShut, OnDisk.{FollowsWithin, GoesOn}}, proofs.GateLaws.{torn_first, written_at}}
-use Rattle.pm_log.{specs.Init.{HasNew, HasNone, HasPart, IsBeingMade, IsNewCluster, OpensLast, new_log, with_new_log}, proofs.{Lists.over, Moves.base_stands, Steps.means_shut, ToldMoves.Wrote}}
+use Rattle.pm_log.{specs.Init.{HasNew, HasNone, HasPart, IsBeingMade, IsNewCluster, OpensLast, new_log, with_new_log}, proofs.{Lists.over, Steps.means_shut, Wrote.{Wrote, base_stands}}}
 
 -- ---- the new log
 

@@ -1,11 +1,15 @@
 mod Appends
+mod Begun
+mod Changes
 mod Checkpoints
 mod Fronts
+mod Halves
 mod Inits
 mod Lists
 mod Looks
+mod Makings
 mod Moves
 mod Steps
 mod Told
-mod ToldMoves
+mod Wrote
 pub mod BatchLaws

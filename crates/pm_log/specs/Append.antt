@@ -1,6 +1,6 @@
 -- What appending a batch leaves, at any moment and after it.
-use Rattle.std.specs.Prelude.{◌≡◌, ◌⊎◌, ℕ, ◌+◌, ◌-◌, List, ◌∷◌, [], ◌++◌, length}
-use Rattle.pm_record.specs.{pm_disk.{declared.disk.Which.Which, Files.Files}, pm_rows.{declared.commit.Change.Change, Standing.{Standing, after}}, Spelling.batch_bytes, StandsFor.{Content, MayAppend, standing_of, with_batch}, Pair.MeansIn, OnDisk.{Rests, Throughout}}
+use Rattle.std.specs.Prelude.{◌≡◌, ◌⊎◌, ℕ, ◌+◌, ◌-◌, List, ◌∷◌, [], ◌++◌, length, take}
+use Rattle.pm_record.specs.{pm_disk.{declared.disk.Which.Which, Files.{Files, file_of}}, pm_rows.{declared.commit.Change.Change, Standing.{Standing, after}}, Spelling.batch_bytes, StandsFor.{Content, MayAppend, standing_of, with_batch}, Pair.MeansIn, OnDisk.{Rests, Throughout}}
 
 -- the files mean one of the two, each in so many bytes
 abbrev pub MeansOneOf : Standing → ℕ → Standing → ℕ → Files → Type 0
@@ -22,3 +22,7 @@ abbrev pub HasAppended : Which → ℕ → List ℕ → Files → Files → (Fil
 HasAppended file end bytes files now images_before images_now =
     (content : Content) (batch : List (List Change)) → Rests file content end files images_before → MayAppend (standing_of content) batch → IsSpelled bytes batch
     → Rests file (with_batch content batch) (end + (length bytes - 1)) now images_now
+
+-- and what stood in front of the gate stands there still, with these bytes behind it
+abbrev pub GrowsBehind : Which → ℕ → List ℕ → Files → Files → Type 0
+GrowsBehind file end bytes files now = (rest : List ℕ) × (file_of now file ≡ take end (file_of files file) ++ (bytes ++ rest))

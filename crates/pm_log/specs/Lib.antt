@@ -1,5 +1,8 @@
 pub mod Append
+pub mod Change
+pub mod Half
 pub mod Init
 pub mod Log
+pub mod Making
 pub mod Move
 pub use Rattle.pm_rows.specs as pm_rows

@@ -1,7 +1,7 @@
 -- The log's calls: what its fields say of the content, and what a call may leave.
 use Rattle.std.specs.Prelude.{◌≡◌, ℕ, ◌+◌, ◌-◌, length, None}
 use Rattle.pm_record.specs.{pm_disk.Files.Files, Spelling.base_bytes, StandsFor.{Content, standing_of}, OnDisk.Rests, declared.found.Found.Found}
-use Rattle.pm_log.specs.declared.log.Log.{Log}
+use Rattle.pm_log.specs.{Half.more_of, declared.log.Log.Log}
 
 -- the length of a file up to the first gate after its base
 abbrev pub base_length : Content → ℕ
@@ -25,8 +25,10 @@ resumed found limit = record {
   count = found.count;
   limit = limit;
   since = None;
+  making = None;
 }
 
--- for how many bytes there is room in front of the gate that closes the file
+-- for how many bytes there is room in front of the gate that closes the file, and in the file that is being made too,
+-- once all so far is copied
 abbrev pub room_of : Log → ℕ
-room_of log = log.limit - (log.end + 1)
+room_of log = log.limit - (log.end + more_of log.making + 1)

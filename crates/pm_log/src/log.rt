@@ -3,14 +3,15 @@
 //! A batch counts where the gate in front of it is open. `append` writes everything behind the closed gate first and
 //! makes that durable, and only then opens the gate, so a stop leaves the batch whole or not at all.
 
-ghost use Rattle.std.specs.Prelude.{All, ◌≡◌, ◌≢◌, ◌+◌, ◌-◌, ◌^◌, ◌≤◌, ◌<◌, [], ◌∷◌, ◌++◌, ℕ, ◌↔◌, length, IfOk, IfSome, IsErr, OnOk, OnErr, Some, None};
-ghost use Rattle.pm_record.specs.{pm_disk.{Cause.IsCounted, Disk.TellsStill, Files.{file_of, other}}, pm_rows.{Limits.IsWithinRowLimits, LogSize.need_of, Standing.after, Batch.IsBatch}, Spelling.{base_bytes, batch_bytes}, StandsFor.{Content, IsRow, MayAppend, checkpointed, standing_of, with_batch}, OnDisk.{GoesOn, Throughout}};
+ghost use Rattle.std.specs.Prelude.{All, ◌≡◌, ◌≢◌, ◌+◌, ◌-◌, ◌^◌, ◌≤◌, ◌<◌, [], ◌∷◌, ◌++◌, ℕ, ◌↔◌, length, IfOk, IfSome, IsErr, IsSome, OnOk, OnErr, Some, None};
 ghost use Rattle.std.specs.FinMap as map;
-ghost use Rattle.pm_log.specs.{Append.{HasAppended, KeepsAppending}, Move.{HasMoved, KeepsMoving}};
+ghost use Rattle.pm_record.specs.{pm_disk.{Cause.IsCounted, Disk.TellsStill, Files.{Files, file_of, other}}, pm_rows.{Limits.IsWithinRowLimits, LogSize.need_of, Standing.after, Batch.IsBatch}, Spelling.{base_bytes, batch_bytes}, StandsFor.{Content, IsRow, MayAppend, checkpointed, standing_of, with_batch}, OnDisk.{GoesOn, Throughout}, Pair.MeansIn};
+ghost use Rattle.pm_log.specs.{Append.{GrowsBehind, HasAppended, KeepsAppending}, Change.{HasChanged, KeepsChanging}, Half.{Half, over_of}, Making.{HasStepped, HasSwitched, IsReady, IsStep, IsUnderWay, IsWhole, Makes, MayBegin, begun}, Move.{HasMoved, KeepsMoving}};
 
+use crate::making::{Making, Stepped};
 use pm_disk::{Disk, DiskFault, Which};
 use pm_record::{
-    Bytes, CLOSED, Found, lengths_are_the_numbers, put_base, put_batch, write_durably,
+    Bytes, CLOSED, Found, OPEN, lengths_are_the_numbers, put_base, put_batch, write_durably,
 };
 use pm_rows::{Commit, Rows};
 use std::alloc::{AllocError, Global};
@@ -68,6 +69,8 @@ pub struct Log {
     pub limit: u64,
     /// The tick at which the disk failed, since the log was resumed.
     pub since: Option<u64>,
+    /// By how many bytes the file that is being made will be longer than this one, while one is being made.
+    pub making: Option<u64>,
 }
 
 impl Log {
@@ -85,6 +88,7 @@ impl Log {
             count: found.count,
             limit,
             since: None,
+            making: None,
         }
     }
 
@@ -95,11 +99,14 @@ impl Log {
         self.end.saturating_sub(self.base_end)
     }
 
-    /// For how many bytes there is room in front of the gate that closes the file.
+    /// For how many bytes there is room in front of the gate that closes the file, and in the file that is being made
+    /// too, once all so far is copied.
     pub fn room(&self) -> u64
         ensures { result ≡ room_of self.now }
     {
-        self.limit.saturating_sub(self.end.saturating_add(1))
+        let more = self.making.unwrap_or(0);
+        self.limit
+            .saturating_sub(self.end.saturating_add(more).saturating_add(1))
     }
 
     /// Appends a batch. At every tick of the call a stop leaves the commits before it, or these with the whole batch,
@@ -143,6 +150,11 @@ impl Log {
             → (self.new ≡ self.old) × (disk.new ≡ disk.old) }
         ensures beside { TellsStill (λ files now. file_of now (other self.old.file) ≡ file_of files
             (other self.old.file)) (D.seen disk.old) (D.seen disk.new) }
+        ensures under_way { (half : Half) → IsUnderWay self.old half → IsUnderWay self.new half }
+        ensures makes { OnOk result (TellsStill (λ files now. (content : Content) (half : Half)
+            → Makes half self.old.file self.old.end content files
+            → Makes half self.new.file self.new.end (with_batch content batch.now) now)
+            (D.seen disk.old) (D.seen disk.new)) }
         ensures time { GoesOn (D.ticks disk.old) (D.ticks disk.new) (D.images disk.old)
             (D.images disk.new) }
         ensures cause { IsCounted (D.faults disk.old) (D.faults disk.new)
@@ -179,6 +191,7 @@ impl Log {
         rows: &Rows,
         clean: bool,
     ) -> Result<u64, LogFault>
+        requires alone { self.old.making ≡ None }
         requires gate { self.old.since ≡ None → IfSome (D.seen disk.old)
             (λ files. 1 ≤ length (file_of files (other self.old.file))) }
         requires rows { All IsRow (map.entries rows.now) }
@@ -198,7 +211,8 @@ impl Log {
             × (self.new.epoch ≡ epoch)) }
         ensures kept { OnOk result ((self.new.file ≡ other self.old.file)
             × (self.new.count ≡ self.old.count) × (self.new.end ≡ self.new.base_end)
-            × (self.new.limit ≡ self.old.limit) × (self.new.since ≡ None)) }
+            × (self.new.limit ≡ self.old.limit) × (self.new.since ≡ None)
+            × (self.new.making ≡ None)) }
         ensures base { OnOk result (self.new.base_end ≡ 1 + length
             (base_bytes (self.old.epoch + 1) clean self.old.count rows.now)) }
         ensures broken { (since : ℕ) → result ≡ Err (LogFault.Broken since)
@@ -241,6 +255,157 @@ impl Log {
                 Err(LogFault::Disk)
             }
         }
+    }
+
+    /// Begins to make the other file, as the base of all rows in the next epoch. From here on a batch needs room in that
+    /// file as well. It spells the base, keeps it in memory, and makes no device call.
+    pub fn begin(&mut self, alloc: Global, rows: &Rows) -> Result<Making, LogFault>
+        requires alone { self.old.making ≡ None }
+        requires rows { All IsRow (map.entries rows.now) }
+        requires limits { IsWithinRowLimits rows.now }
+        ensures half { IfOk result (λ making. making ≡ begun self.old rows.now) }
+        ensures makes { IfOk result (λ making. (content : Content) (files : Files)
+            → MayBegin self.old rows.now content files
+            → Makes making self.new.file self.new.end content files) }
+        ensures under_way { IfOk result (IsUnderWay self.new) }
+        ensures begun { IfOk result (λ making. self.new ≡ record self.old
+            { making = Some (over_of making) }) }
+        ensures broken { (since : ℕ) → result ≡ Err (LogFault.Broken since)
+            ↔ self.old.since ≡ Some since }
+        ensures full { (need room : ℕ) → result ≡ Err (LogFault.Full need room)
+            → (self.old.since ≡ None) × (self.old.epoch ≡ 2 ^ 64 - 1) × (need ≡ 9) × (room ≡ 0) }
+        ensures last { OnOk result ((self.old.since ≡ None) × (self.old.epoch < 2 ^ 64 - 1)) }
+        ensures disk { result ≢ Err LogFault.Disk }
+        ensures untouched { OnErr result (self.new ≡ self.old) }
+    {
+        if let Some(since) = self.since {
+            return Err(LogFault::Broken { since });
+        }
+        if self.epoch == u64::MAX {
+            return Err(LogFault::Full {
+                need: EMPTY_BATCH,
+                room: 0,
+            });
+        }
+        let making = Making::of(alloc, self.epoch + 1, self.end, self.count, rows)?;
+        self.making = Some(making.over());
+        Ok(making)
+    }
+
+    /// Makes one piece more of the other file, of up to 1 MiB: of the base, or else of what was appended since `begin`.
+    /// Where nothing is left it makes all of it durable, and that alone answers `Ready`. At every tick of the call a stop
+    /// leaves the same rows and count. After `Disk` the log is broken.
+    pub fn step<D: Disk>(&mut self, disk: &mut D, making: &mut Making) -> Result<Stepped, LogFault>
+        requires under_way { IsUnderWay self.old making.old }
+        requires log { self.old.since ≡ None → IfSome (D.seen disk.old)
+            (λ files. self.old.end ≤ length (file_of files self.old.file)) }
+        requires beside { self.old.since ≡ None → IfSome (D.seen disk.old)
+            (λ files. making.old.done ≤ length (file_of files (other self.old.file))) }
+        ensures stops { IfSome (D.seen disk.old) (λ files. (content : Content)
+            → Lives self.old content files (D.images disk.old (D.ticks disk.old))
+            → Throughout (D.ticks disk.old) (D.ticks disk.new) (D.images disk.new)
+            (λ image. MeansIn image (standing_of content) (self.old.end + 1))) }
+        ensures lives { OnOk result (TellsStill (λ files now. (content : Content)
+            → Lives self.old content files (D.images disk.old (D.ticks disk.old))
+            → Lives self.new content now (D.images disk.new (D.ticks disk.new)))
+            (D.seen disk.old) (D.seen disk.new)) }
+        ensures made { IfOk result (λ stepped. TellsStill
+            (λ files now. HasStepped making.old making.new self.old.file self.old.end files now
+            (D.images disk.new (D.ticks disk.new)) stepped) (D.seen disk.old) (D.seen disk.new)) }
+        ensures step { IfOk result (IsStep making.old making.new self.old.end) }
+        ensures under_way { IsUnderWay self.new making.new }
+        ensures still { OnErr result (making.new ≡ making.old) }
+        ensures log { OnOk result (self.new ≡ self.old) }
+        ensures broken { (since : ℕ) → result ≡ Err (LogFault.Broken since)
+            ↔ self.old.since ≡ Some since }
+        ensures disk { result ≡ Err LogFault.Disk → (self.new ≡ record self.old
+            { since = Some (D.ticks disk.new) }) × (self.old.since ≡ None) }
+        ensures refuses { (fault : LogFault) → result ≡ Err fault → fault ≢ LogFault.Disk
+            → IsSome self.old.since × (self.new ≡ self.old) × (disk.new ≡ disk.old) }
+        ensures same_file { TellsStill (λ files now. file_of now self.old.file ≡ file_of files
+            self.old.file) (D.seen disk.old) (D.seen disk.new) }
+        ensures time { GoesOn (D.ticks disk.old) (D.ticks disk.new) (D.images disk.old)
+            (D.images disk.new) }
+        ensures cause { IsCounted (D.faults disk.old) (D.faults disk.new)
+            (result ≡ Err LogFault.Disk) }
+    {
+        if let Some(since) = self.since {
+            return Err(LogFault::Broken { since });
+        }
+        match making.go_on(disk, self.file, self.end) {
+            Ok(stepped) => Ok(stepped),
+            Err(DiskFault) => {
+                self.since = Some(disk.ticks());
+                Err(LogFault::Disk)
+            }
+        }
+    }
+
+    /// Opens the file that was made, shuts this one, and goes on there. At every tick of the call a stop leaves the same
+    /// rows and count. After `Disk` the log is broken.
+    pub fn switch<D: Disk>(&mut self, disk: &mut D, making: Making) -> Result<u64, LogFault>
+        requires under_way { IsUnderWay self.old making }
+        requires whole { IsWhole self.old making }
+        ensures lives { OnOk result (TellsStill (λ files now. (content : Content)
+            → Lives self.old content files (D.images disk.old (D.ticks disk.old))
+            → IsReady making self.old.file self.old.end content files
+            (D.images disk.old (D.ticks disk.old))
+            → HasSwitched self.new content now (D.images disk.new (D.ticks disk.new)))
+            (D.seen disk.old) (D.seen disk.new)) }
+        ensures stops { IfSome (D.seen disk.old) (λ files. (content : Content)
+            → Lives self.old content files (D.images disk.old (D.ticks disk.old))
+            → IsReady making self.old.file self.old.end content files
+            (D.images disk.old (D.ticks disk.old))
+            → Throughout (D.ticks disk.old) (D.ticks disk.new) (D.images disk.new)
+            (MeansOneOf (standing_of content) (self.old.end + 1) (standing_of content)
+            (making.done + 1))) }
+        ensures moved { OnOk result (self.new ≡ record self.old {
+          file = other self.old.file;
+          epoch = making.epoch;
+          base_end = length making.base;
+          end = making.done;
+          making = None;
+        }) }
+        ensures epoch { IfOk result (λ epoch. epoch ≡ making.epoch) }
+        ensures broken { (since : ℕ) → result ≡ Err (LogFault.Broken since)
+            ↔ self.old.since ≡ Some since }
+        ensures disk { result ≡ Err LogFault.Disk → (self.new ≡ record self.old
+            { since = Some (D.ticks disk.new); making = None }) × (self.old.since ≡ None) }
+        ensures refuses { (fault : LogFault) → result ≡ Err fault → fault ≢ LogFault.Disk
+            → IsSome self.old.since × (self.new ≡ record self.old { making = None })
+            × (disk.new ≡ disk.old) }
+        ensures tells { TellsStill (λ files now. Unit {0}) (D.seen disk.old) (D.seen disk.new) }
+        ensures time { GoesOn (D.ticks disk.old) (D.ticks disk.new) (D.images disk.old)
+            (D.images disk.new) }
+        ensures cause { IsCounted (D.faults disk.old) (D.faults disk.new)
+            (result ≡ Err LogFault.Disk) }
+    {
+        self.making = None;
+        if let Some(since) = self.since {
+            return Err(LogFault::Broken { since });
+        }
+        match change_files(disk, self.file) {
+            Ok(()) => {
+                self.file = self.file.other();
+                self.epoch = making.epoch();
+                self.base_end = making.base_end();
+                self.end = making.done();
+                Ok(self.epoch)
+            }
+            Err(DiskFault) => {
+                self.since = Some(disk.ticks());
+                Err(LogFault::Disk)
+            }
+        }
+    }
+
+    /// Gives up the file that was being made. It makes no device call.
+    pub fn abandon(&mut self, making: Making)
+        requires { IsUnderWay self.old making }
+        ensures { self.new ≡ record self.old { making = None } }
+    {
+        drop(making);
+        self.making = None;
     }
 }
 
@@ -287,6 +452,8 @@ fn write_batch<D: Disk>(disk: &mut D, file: Which, end: u64, bytes: &[u8]) -> Re
         (D.seen disk.old) (D.seen disk.new)) }
     ensures beside { TellsStill (λ files now. file_of now (other file) ≡ file_of files (other file))
         (D.seen disk.old) (D.seen disk.new) }
+    ensures grows { OnOk result (TellsStill (GrowsBehind file end bytes.now) (D.seen disk.old)
+        (D.seen disk.new)) }
     ensures time { GoesOn (D.ticks disk.old) (D.ticks disk.new) (D.images disk.old)
         (D.images disk.new) }
     ensures cause { IsCounted (D.faults disk.old) (D.faults disk.new) (IsErr result) }
@@ -312,9 +479,26 @@ fn move_to_other<D: Disk>(disk: &mut D, file: Which, bytes: &[u8]) -> Result<(),
     ensures cause { IsCounted (D.faults disk.old) (D.faults disk.new) (IsErr result) }
 {
     let next = file.other();
-    let (gate, behind) = bytes.split_at(1);
+    let (_, behind) = bytes.split_at(1);
     write_durably(disk, next, 1, behind)?;
-    write_durably(disk, next, 0, gate)?;
+    change_files(disk, file)?;
+    Ok(())
+}
+
+// Opens the other file, and then shuts this one.
+fn change_files<D: Disk>(disk: &mut D, file: Which) -> Result<(), DiskFault>
+    ensures stops { IfSome (D.seen disk.old) (λ files. KeepsChanging file files
+        (D.ticks disk.old) (D.ticks disk.new) (D.images disk.old) (D.images disk.new)) }
+    ensures changed { OnOk result (TellsStill (λ files now. HasChanged file files now
+        (D.images disk.old (D.ticks disk.old)) (D.images disk.new (D.ticks disk.new)))
+        (D.seen disk.old) (D.seen disk.new)) }
+    ensures tells { TellsStill (λ files now. Unit {0}) (D.seen disk.old) (D.seen disk.new) }
+    ensures time { GoesOn (D.ticks disk.old) (D.ticks disk.new) (D.images disk.old)
+        (D.images disk.new) }
+    ensures cause { IsCounted (D.faults disk.old) (D.faults disk.new) (IsErr result) }
+{
+    let next = file.other();
+    write_durably(disk, next, 0, &[OPEN])?;
     write_durably(disk, file, 0, &[CLOSED])?;
     Ok(())
 }

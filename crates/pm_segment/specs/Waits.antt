@@ -9,12 +9,14 @@ use Rattle.pm_segment.specs.{declared.live.Live.Live, Fronts.{flushed_of, whole_
 abbrev pub needs_alone : List (List Change) → ℕ
 needs_alone commits = sum_by (λ commit. log.need_of (commit ∷ [])) commits
 
--- It comes after what is flushed, and there is room in the log for all of it, up to a fault of the disk.
+-- It comes after what is flushed, and there is room in the log for all of it, up to a fault of the disk. No other file of the log is
+-- being made.
 pub record Waits (live : Live) (stage : Waiting) : Type 0 where
   pub flushed : stage.flushed ≡ flushed_of live
   pub front : whole_of live ≡ front_of stage
   pub needs : live.needs ≡ needs_alone stage.commits
   pub room : live.log.since ≡ None → live.needs ≤ room_of live.log
+  pub alone : live.log.making ≡ None
 
 -- so it is after a redo
 abbrev pub IsBehind : Option Live → Waiting → Type 0

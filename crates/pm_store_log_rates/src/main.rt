@@ -71,6 +71,7 @@ fn time_rows(rt: HostRuntime, folder: &str, rows: u64) -> Result<()> {
     let start = Instant::now(&rt)?;
     let found = recover(alloc, &mut disk)?;
     let from_batches = start.elapsed(&rt)?;
+    let mut log = Log::resume(&found, MAX_FILE_BYTES);
     let start = Instant::now(&rt)?;
     let _epoch = log.checkpoint(alloc, &mut disk, &found.rows, true)?;
     let checkpoint = start.elapsed(&rt)?;

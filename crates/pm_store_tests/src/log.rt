@@ -2,6 +2,7 @@
 ghost use Rattle.std.specs.Prelude.{All, IfOk};
 ghost use Rattle.std.specs.FinMap as map;
 ghost use Rattle.pm_record.specs.{StandsFor.IsRow, pm_rows.Limits.IsWithinRowLimits};
+ghost use Rattle.pm_log.specs.{Half.Half, Making.IsUnderWay};
 
 use pm_disk::{Disk, FailingDisk, MemDisk, Which};
 use pm_log::{Log, LogFault, may_append};
@@ -37,7 +38,9 @@ pub fn append(
     disk: &mut Failing,
     log: &mut Log,
     batch: &[Commit],
-) -> Result<String, Fail> {
+) -> Result<String, Fail>
+    ensures { (half : Half) → IsUnderWay log.old half → IsUnderWay log.new half }
+{
     if !may_append(batch) {
         return Ok(String::from_str(alloc, "not to be appended")?);
     }
@@ -61,6 +64,7 @@ pub fn checkpoint(
     requires limits { IsWithinRowLimits rows.now }
 {
     assert!(rt; 1 <= disk.inner().file(log.file.other()).len());
+    assert!(rt; log.making.is_none());
     log.checkpoint(alloc, disk, rows, true)
 }
 

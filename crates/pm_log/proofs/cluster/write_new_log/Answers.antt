@@ -1,6 +1,6 @@
 use Rattle.std.{proofs.Common.{arith, length, subst, ap, ◌∙◌, List, ℕ, [], ◌∷◌, refl}, specs.Prelude.option_map}
 use Rattle.pm_record.{specs.{pm_disk.declared.disk.Which.TheVariants.{A, B}, Calls.goes_two}, proofs.GateLaws.written_at}
-use Rattle.pm_log.proofs.{Inits.{closed, closed_long, left_first, left_made, left_second, left_third, made, told_first, told_last, told_new, told_second, told_third}, ToldMoves.Wrote}
+use Rattle.pm_log.proofs.{Inits.{closed, closed_long, left_first, left_made, left_second, left_third, made, told_first, told_last, told_new, told_second, told_third}, Wrote.Wrote}
 use Rattle.pm_log.proofs.cluster.write_new_log.Goals as goal
 
 pub returns-in_err-write_durably-clause-left : goal.returns-in_err-write_durably-clause-left

@@ -1,6 +1,6 @@
 use Rattle.std.{proofs.Common.{◌+◌, ap, ◌∙◌, List, ℕ}, specs.Prelude.option_map}
 use Rattle.pm_record.proofs.GateLaws.{written_at}
-use Rattle.pm_log.proofs.Told.{gate_behind, has_appended, keeps_both, keeps_first}
+use Rattle.pm_log.proofs.{Halves.told_grows, Told.{gate_behind, has_appended, keeps_both, keeps_first}}
 use Rattle.pm_log.proofs.log.write_batch.Goals as goal
 
 pub returns-in_err-write_durably-clause-stops : goal.returns-in_err-write_durably-clause-stops
@@ -47,3 +47,13 @@ returns-clause-rests g c =
     c.split_at.ensures.front_len c.in_ok-write_durably-2.ensures.stops c.in_ok-write_durably-2.ensures.time
     (c.in_ok-write_durably-2.ensures.written ∙ ap (λ (l : List ℕ). option_map (written_at file end l) mid) c.split_at.ensures.front)
     c.in_ok-write_durably-2.ensures.durable
+
+pub returns-clause-grows : goal.returns-clause-grows
+returns-clause-grows g c =
+    let before = g.D.Disk.seen c.args.disk.now in
+    let mid = g.D.Disk.seen c.write_durably.new.disk in
+    let file = c.args.file in
+    let end = c.args.end in
+    told_grows before mid (g.D.Disk.seen c.write_durably-2.new.disk) file end c.args.bytes.now c.requires.some c.requires.gate
+    (c.in_ok-write_durably.ensures.written ∙ ap (λ (l : List ℕ). option_map (written_at file (end + 1) l) before) c.split_at.ensures.back)
+    (c.in_ok-write_durably-2.ensures.written ∙ ap (λ (l : List ℕ). option_map (written_at file end l) mid) c.split_at.ensures.front)

@@ -1,7 +1,7 @@
 use Rattle.std.{proofs.Common.{rules, ◌≡◌, ◌∙◌, inl, inr, ℕ, ◌+◌, ◌^◌, ◌<◌, List, [], ◌∷◌, Option, Some, refl, sym, ap, subst, arith, length}, specs.Prelude.IfSome}
 use Rattle.pm_query.specs.{pm_rows.{declared.commit.Change.Change, Fold.{RowMap, committed}, Limits.IsWithinRowLimits, Batch.IsBatch}, pm_disk.Disk.TellsStill, Limits.HasShortRows, declared.book.BookEntry.{BookEntry, TheVariants.{Answered, Broke, LogFull}}, Answer.commit_of, Book.need_of}
 use Rattle.pm_query.specs.pm_rows.LogSize as log
-use Rattle.pm_log.specs.declared.log.{Log.Log, LogFault.LogFault}
+use Rattle.pm_log.specs.{Half.more_of, declared.log.{Log.Log, LogFault.LogFault}}
 use Rattle.pm_outside.{proofs.AddedLaws.added_both, specs.Added.Added}
 use Rattle.pm_segment.{specs.{declared.{commits.Commits.Commits, live.Live.Live}, Moment.{Moment, alone, over_of}, Moves.Moves, Rests.Rests, Waits.needs_alone}, proofs.{Passing.{attends, inside_answered, inside_still, no_less, staged_still}, Resting.{LivesWith, StopsOneOf, batch_is, durable_of, gate_of, may_append, need_is, rests_broken, full_or_disk, rests_with, tells_nothing, through_of}, Steps.{Appends, commits, finds_full, loses, some_none, stays_put}, Waiting.{bare_rests, waits_at, waits_none}}}
 use Rattle.pm_stage.specs.Stage.{Waiting}
@@ -45,6 +45,7 @@ invariant_of-self-in-Ok g c =
     let none = c.requires.none in
     let rests = bare_rests seen c.args.self.now.live c.args.live rows c.args.self.now.stage.commits before c.requires.live none c.requires.rests in
     let lives = subst (λ (b : List (List Change)). TellsStill (LivesWith c.args.live new b before behind) seen now) c.from_ref.ensures.value c.in-Ok.ensures.lives in
+    let its = waits_at c.args.self.now.live c.args.live c.args.self.now.stage c.requires.live c.args.self.now.behind in
     record {
       begun = c.args.self.now.begun;
       short = subst HasShortRows (sym is) (c.requires.answer.short_rows c.args.self.now.short);
@@ -54,6 +55,7 @@ invariant_of-self-in-Ok g c =
         front = omega (arith, upto, ap length emptied);
         needs = waits_bare.1 ∙ sym (ap needs_alone emptied);
         room = λ whole. omega (arith, waits_bare.1);
+        alone = ap (λ (l : Log). l.making) c.in-Ok.ensures.grown ∙ its.alone;
       } ∣₁;
       ticks = c.args.self.now.ticks;
       room = omega (arith, c.requires.room, c.answer.ensures.room);
@@ -100,6 +102,7 @@ invariant_of-self-in-Err-Disk g c =
         front = its.front;
         needs = its.needs;
         room = λ whole. absurd (some_none (g.D.Disk.ticks c.append.new.disk) (sym broke ∙ whole));
+        alone = ap (λ (l : Log). l.making) (c.in-Err-Disk.ensures.disk (search rules)).0 ∙ its.alone;
       } ∣₁;
       ticks = c.args.self.now.ticks;
       room = omega (arith, c.requires.room, c.note_answer.ensures.room, c.note_fault.ensures.room);
@@ -288,10 +291,11 @@ returns-in-Err-Full-clause-notes g c =
     let is : c.cancel.result ≡ c.args.self.now.rows = c.cancel.ensures ∙ ap (λ p. p.before) c.in_ok-prepared.ensures.ok in
     let same = (c.in-Err-Full.ensures.untouched (LogFault.Full need room) (search rules) (λ other. absurd (full_or_disk need room other))).1 in
     let waits_bare = waits_none c.args.self.now.live c.args.live c.args.self.now.stage c.requires.live c.requires.none c.args.self.now.behind in
+    let its = waits_at c.args.self.now.live c.args.live c.args.self.now.stage c.requires.live c.args.self.now.behind in
     let needs = full.1 ∙ ap log.need_of c.from_ref.ensures.value ∙ need_is ran.commit c.requires.some in (
       entry ∷ [],
       λ ways. rw (same, is) (finds_full c.history_laws.ensures.past c.history_laws.ensures.present (over_of told ways c.args.disk.now c.args.self.now) c.args.live (g.B.Chronicle.entries c.note_full.new.book) pid need room ran.script ran.commit
-          c.requires.live c.requires.unbroken (attends c.args.pass.now (alone c.args.self.now) c.requires.admits) c.requires.answer.commit_is needs full.3 (inr (omega (arith, full.2, waits_bare.1)))
+          c.requires.live c.requires.unbroken (attends c.args.pass.now (alone c.args.self.now) c.requires.admits) c.requires.answer.commit_is needs full.3 (inr (omega (arith, full.2, waits_bare.1, ap more_of its.alone)))
           c.note_full.ensures.entries),
       rw c.note_full.ensures.full (c.requires.answer.writes c.requires.some, refl),
     )

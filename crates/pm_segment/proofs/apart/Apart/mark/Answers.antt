@@ -1,6 +1,6 @@
 use Rattle.std.{proofs.Common.{◌≡◌, ◌∙◌, Bool, ℕ, ◌+◌, ◌-◌, ◌*◌, List, [], ◌∷◌, ◌++◌, Option, Some, None, refl, sym, ap, subst, arith, length, take, drop}, proofs.lemmas.List.{length-drop, length-take}, specs.Prelude.{IfSome, cond}}
 use Rattle.pm_query.specs.{pm_disk.Disk.TellsStill, pm_rows.{declared.commit.Change.Change, Batch.IsBatch, Limits.max_commits}, declared.book.BookEntry.{BookEntry, TheVariants.Broke}}
-use Rattle.pm_log.specs.declared.log.Log.{Log}
+use Rattle.pm_log.specs.{Half.more_of, declared.log.Log.{Log}}
 use Rattle.pm_stage.specs.Stage.{Waiting, flushed_to}
 use Rattle.pm_segment.{specs.{declared.{commits.Commits.Commits, live.Live.Live}, Lending.{CameTo, HasFailed, IsDurable, LivesAt, StopsAt}, Moment.{Moment, alone, over_of}, MovesLaws.moves_none, Rests.Rests, Waits.needs_alone}, proofs.{Lendings.{is_less, is_oldest, left_of, unread_none}, Passing.{attends, inside_still, staged_still}, Resting.{LivesWith, StopsOneOf, rests_broken}, Staging.{Writes, flush_fails, flushes, rests_written}, Steps.some_none, Waiting.{need_some, needs_parts}}}
 use Rattle.pm_outside.proofs.AddedLaws.{added_none}
@@ -161,7 +161,8 @@ invariant_of-self g c =
         flushed = ap (λ (x : Waiting). x.flushed) staged ∙ sym is.upto;
         front = omega (arith, old.waits.front, ap (λ (x : Waiting). x.flushed) staged, ap length left, length-drop k w.commits, old.few);
         needs = omega (arith, is.less, old.waits.needs, needs_parts w.commits k, ap needs_alone left);
-        room = λ open_log. omega (arith, old.waits.room unbroken, old.waits.needs, ap (λ (l : Log). l.limit) done.grown, ap (λ (l : Log). l.limit) old.same, is.end, need_some (take k w.commits) batch_is.some, needs_parts w.commits k, is.less);
+        room = λ open_log. omega (arith, old.waits.room unbroken, old.waits.needs, ap (λ (l : Log). l.limit) done.grown, ap (λ (l : Log). l.limit) old.same, ap (λ (l : Log). more_of l.making) done.grown, ap (λ (l : Log). more_of l.making) old.same, is.end, need_some (take k w.commits) batch_is.some, needs_parts w.commits k, is.less);
+        alone = ap (λ (l : Log). l.making) done.grown ∙ sym (ap (λ (l : Log). l.making) old.same) ∙ old.waits.alone;
       } ∣₁;
       ticks = c.args.self.now.ticks;
       room = omega (arith, c.args.self.now.room);
@@ -279,6 +280,7 @@ invariant_of-self-in-Failed g c =
         front = old.waits.front;
         needs = old.waits.needs;
         room = λ whole. absurd (some_none (g.D.Disk.ticks c.args.disk.now) (sym (ap (λ (l : Log). l.since) failed.broke) ∙ whole));
+        alone = ap (λ (l : Log). l.making) failed.broke ∙ sym (ap (λ (l : Log). l.making) old.same) ∙ old.waits.alone;
       } ∣₁;
       ticks = c.args.self.now.ticks;
       room = omega (arith, c.args.self.now.room, c.note_fault.ensures.room, ap {B = ℕ} (λ (b : Bool). cond b 1 0) c.requires.under.out);

@@ -11,6 +11,9 @@ checkpoint-requires-clause-gate g c = λ whole.
     let images = g.D.Disk.images c.args.disk.now (g.D.Disk.ticks c.args.disk.now) in
     gate_other seen c.args.live c.args.self.now.rows c.args.self.now.stage.commits images (subst (λ (l : Option Live). ∥ Rests l c.args.self.now.rows c.args.self.now.stage.commits seen images ∥₁) c.requires.read c.requires.rests) whole (g.met.D.Disk.reads_as_left c.args.disk.now)
 
+pub checkpoint-requires-clause-alone : goal.checkpoint-requires-clause-alone
+checkpoint-requires-clause-alone g c = (waits_at c.args.self.now.live c.args.live c.args.self.now.stage c.requires.read c.args.self.now.behind).alone
+
 pub checkpoint-requires-clause-rows : goal.checkpoint-requires-clause-rows
 checkpoint-requires-clause-rows g c = λ k d lt. ((c.are_typed.ensures k d lt).0, (c.are_typed.ensures k d lt).1, c.args.self.now.short k d lt)
 
@@ -34,6 +37,7 @@ invariant_of-self g c =
         front = its.front;
         needs = its.needs;
         room = λ whole. omega (arith, waits_bare.1);
+        alone = c.in-Ok.ensures.kept.5;
       } ∣₁;
       ticks = c.args.self.now.ticks;
       room = omega (arith, c.requires.room, c.note.ensures.room);
@@ -228,6 +232,7 @@ invariant_of-self-in-Err-Disk g c =
         front = its.front;
         needs = its.needs;
         room = λ whole. absurd (some_none then (sym broke ∙ whole));
+        alone = ap (λ (l : Log). l.making) broken ∙ its.alone;
       } ∣₁;
       ticks = c.args.self.now.ticks;
       room = omega (arith, c.requires.room, c.note_fault.ensures.room);

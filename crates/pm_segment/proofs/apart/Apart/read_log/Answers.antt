@@ -21,6 +21,7 @@ invariant_of-self g c =
         front = omega (arith, upto, ap length emptied);
         needs = sym (ap needs_alone emptied);
         room = λ whole. omega arith;
+        alone = ap (λ (l : Log). l.making) c.resume-log.ensures;
       } ∣₁;
       ticks = c.args.self.now.ticks;
       room = omega (arith, c.requires.room, c.note.ensures.room);
