@@ -1,6 +1,6 @@
 -- A whole run.
 use Rattle.std.{proofs.{Common.{◌≡◌, ◌⊎◌, inl, inr, ℕ, ◌+◌, ◌≤◌, List, [], ◌∷◌, ◌++◌, length, Option, None, Some, Result, Err, refl, sym, ◌∙◌, ap, subst, arith}, lemmas.{List.{Folds.list_any-append, Elements.All-nil}, Bool.or_parts, Option.same_Some}, Math.Bool.or-true}, specs.{Prelude.{Bool, true, false, is_some, IfSome}, List.{AllByRecursion, last_or, list_any}}}
-use Rattle.pm_server.{specs.{pm_facts.Bools.never_both, pm_disk.Cause.Rose, pm_modes.declared.Mode.{Mode, TheVariants.Smart}, pm_state.{declared.event.PmEvent.PmEvent, Journal.{Follows, all_replayed, replay_begun}, Laws.RestartsSafely, Restarts.AreAsSet}, pm_query.declared.book.BookEntry.{BookEntry, TheVariants.Opened}, pm_segment.{Children.times_in, Moves.BreakIsShown, declared.live.Live.Live}, Journal.{IsMoment, asked_in, IsJournal}, Ends.{IsBook, end_line}, declared.end.{ServerEnd.{ServerEnd, TheVariants.{Clean, Abnormal, NoThread, NoMemory}}, Why.TheVariants.{AfterCrash, StartupFailed, RestartOff, GenerationsSpent}}}, proofs.JournalLaws.all_weaker}
+use Rattle.pm_server.{specs.{pm_facts.Bools.never_both, pm_disk.Cause.Rose, pm_modes.declared.Mode.{Mode, TheVariants.Smart}, pm_state.{declared.event.PmEvent.PmEvent, Journal.{Follows, all_replayed, replay_begun}, Laws.RestartsSafely, Restarts.AreAsSet}, pm_query.declared.book.BookEntry.{BookEntry, TheVariants.Opened}, pm_segment.{Children.times_in, Moves.BreakIsShown, pm_store_apart.declared.live.Live.Live}, Journal.{IsMoment, asked_in, IsJournal}, Ends.{IsBook, end_line}, declared.end.{ServerEnd.{ServerEnd, TheVariants.{Clean, Abnormal, NoThread, NoMemory}}, Why.TheVariants.{AfterCrash, StartupFailed, RestartOff, GenerationsSpent}}}, proofs.JournalLaws.all_weaker}
 use Rattle.pm_supervisor.{specs.{Children.one_if, declared.Limits.Limits, Steps.empty_trace}, proofs.CountLaws.at_most_one}
 use Rattle.pm_server.specs.pm_state.declared.event.PmEvent.TheVariants as entry
 use Rattle.pm_supervisor.specs.declared.Ending.TheVariants as endings

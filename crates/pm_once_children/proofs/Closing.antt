@@ -1,6 +1,6 @@
 -- What a checkpointer notes that is alone and is asked for the last checkpoint, by what it remembers of that.
 use Rattle.std.{proofs.{Common.{◌≡◌, ◌⊎◌, inl, inr, ℕ, All, List, [], ◌∷◌, ◌++◌, Option, None, Some, Result, Ok, Err, refl, sym, ◌∙◌, ap, subst}, lemmas.List.Elements.All-head}, specs.Prelude.{Bool, true, false, IfSome}}
-use Rattle.pm_server.specs.{pm_exit.declared.child.Kind.TheVariants.Checkpointer, pm_query.{declared.{book.BookEntry.{BookEntry, TheVariants.{Attached, Detached, CheckpointEnded, Broke}}, store.{Checkpointed.{Checkpointed, TheVariants.{Done, Skipped, NotDue}}, StoreNo.StoreNo}}, Calls.{User, newcomer, CheckpointNotes}}, pm_disk.Files.Files, pm_rows.Fold.RowMap, pm_segment.{declared.live.Live.Live, Moment.Moment, Redos.{FullAtLast, IsAtLastEpoch, IsCleanAt}}}
+use Rattle.pm_server.specs.{pm_exit.declared.child.Kind.TheVariants.Checkpointer, pm_query.{declared.{book.BookEntry.{BookEntry, TheVariants.{Attached, Detached, CheckpointEnded, Broke}}, store.{Checkpointed.{Checkpointed, TheVariants.{Done, Skipped, NotDue}}, StoreNo.StoreNo}}, Calls.{User, newcomer, CheckpointNotes}}, pm_disk.Files.Files, pm_rows.Fold.RowMap, pm_segment.{pm_store_apart.declared.live.Live.Live, Moment.Moment, Redos.{FullAtLast, IsAtLastEpoch, IsCleanAt}}}
 use Rattle.pm_once_lives.{specs.pm_child_life.{declared.life.GateNo.GateNo, Life.{Told, Kill, Quit}}, proofs.QuietLaws.{its_gate, same_gate, never_refused}}
 use Rattle.pm_server.specs.pm_query.declared.store.StoreNo.TheVariants as stores
 use Rattle.pm_aux.specs.{declared.cause.AuxiliaryEnd.AuxiliaryEnd, Ends.fault_by, Runs.NotesBehind, Signals.IsToldTo, Work.{HasEntered, IsKeptOut, IsPassing, NotesInside}}

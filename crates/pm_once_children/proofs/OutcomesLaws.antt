@@ -1,6 +1,6 @@
 -- What is known of the store after a child that used it and serves no connection.
 use Rattle.std.{proofs.Common.{ℕ, Option, sym, ◌∙◌, subst, None, Some, ◌≡◌, List, Err, refl, arith, ◌≢◌}, specs.Prelude.{IfSome, All, option_map}}
-use Rattle.pm_server.specs.{pm_disk.{Files.Files, Cause.Rose}, pm_record.declared.fault.RedoFault.RedoFault, pm_segment.{pm_redo.Found.IsReason, Moment.Moment, Redos.{IsAtLastEpoch, IsCleanAt}, declared.live.Live.Live, Moves.IsShown}, Ends.HasRefused, pm_rows.Fold.RowMap, declared.end.StartWhy.{TheVariants.{Redo, Killed}, StartWhy}, pm_query.declared.book.BookEntry.{BookEntry, TheVariants.Detached}}
+use Rattle.pm_server.specs.{pm_disk.{Files.Files, Cause.Rose}, pm_record.declared.fault.RedoFault.RedoFault, pm_segment.{pm_redo.Found.IsReason, Moment.Moment, Redos.{IsAtLastEpoch, IsCleanAt}, pm_store_apart.declared.live.Live.Live, Moves.IsShown}, Ends.HasRefused, pm_rows.Fold.RowMap, declared.end.StartWhy.{TheVariants.{Redo, Killed}, StartWhy}, pm_query.declared.book.BookEntry.{BookEntry, TheVariants.Detached}}
 use Rattle.pm_server.specs.pm_record.declared.fault.RedoFault.TheVariants as redo
 use Rattle.pm_once_children.specs.{Outcomes.{Stays, HasComeTo}, declared.{checkpointer.Closed.{TheVariants.{Made, Crashed, Full, Short}, Closed as Its}, outcome.Outcome.{Outcome, TheVariants.{Closed, Refused}}}, AuxiliaryRuns.{StartNotes, CloseNotes}}
 

@@ -1,6 +1,6 @@
 -- Laws of what a child does that is alone with its store.
 use Rattle.std.{proofs.Common.{◌≡◌, inl, inr, ℕ, ◌≤◌, List, [], ◌∷◌, ◌++◌, Option, Some, Result, Ok, Err, refl, sym, ◌∙◌, ap, subst}, specs.Prelude.true}
-use Rattle.pm_server.specs.{pm_disk.Files.Files, pm_rows.Fold.RowMap, pm_query.{declared.{book.BookEntry.{BookEntry, TheVariants.{Opened, Attached, Redone as WasRedone, Answered, Released, Detached, Gone, CheckpointEnded, Broke, LogFull}}, store.{Checkpointed.Checkpointed, StoreNo.StoreNo}}, Calls.{User, RedoNotes, CheckpointNotes}}, pm_segment.{declared.live.Live.Live, Moment.Moment, Moves.Moves, MovesLaws.{moves_none, moves_on, never_falls}, Redos.{FullAtLast, HasReason, IsAfreshAt, LeavesFiles, LeavesUnread}}}
+use Rattle.pm_server.specs.{pm_disk.Files.Files, pm_rows.Fold.RowMap, pm_query.{declared.{book.BookEntry.{BookEntry, TheVariants.{Opened, Attached, Redone as WasRedone, Answered, Released, Detached, Gone, CheckpointEnded, Broke, LogFull}}, store.{Checkpointed.Checkpointed, StoreNo.StoreNo}}, Calls.{User, RedoNotes, CheckpointNotes}}, pm_segment.{pm_store_apart.declared.live.Live.Live, Moment.Moment, Moves.Moves, MovesLaws.{moves_none, moves_on, never_falls}, Redos.{FullAtLast, HasReason, IsAfreshAt, LeavesFiles, LeavesUnread}}}
 use Rattle.pm_server.specs.pm_record.declared.fault.RedoFault.TheVariants as redo
 use Rattle.pm_server.specs.pm_query.declared.store.StoreNo.TheVariants as stores
 use Rattle.pm_once_children.specs.{declared.alone.Work.{Work, TheVariants.{ToRead, Redone, ToClose, Made}}, Alone.{Does, HasClosed, HasDone, HasRead, Keeps, work_in}}

@@ -1,7 +1,8 @@
 -- What follows from what a store keeps.
 use Rattle.std.{proofs.{Common.{◌≡◌, true, ℕ, inl, inr, List, [], length, Option, None, Some, refl, sym, ◌∙◌, ap, arith, true≢false}, Math.Logic.∥∥₁_map}, specs.Prelude.{IfSome, unwrap_or}}
 use Rattle.pm_query.specs.{pm_disk.Files.Files, pm_record.Pair.Means, declared.book.BookEntry.BookEntry, Book.{Base, faults_here, history_of}, TickLaws.{PastStays, PresentIsWhole}, Durable.HoldsAcknowledged}
-use Rattle.pm_segment.{specs.{declared.live.Live.Live, Moment.{Moment, Told}, Redos.StandsAfresh, Runs.{IsReplay, IsRun, LeavesAcknowledged, StaysClean}, Stands.{GoesFrom, HasBegun, HasHeld, IsSure, Origin, TellsBreak}}, proofs.{Runs.durable, Steps.{gone_at, not_both}}}
+use Rattle.pm_store_apart.{specs.{declared.live.Live.Live, Redos.StandsAfresh, Runs.{IsReplay, IsRun, LeavesAcknowledged, StaysClean}, Stands.{GoesFrom, HasBegun, HasHeld, IsSure, Origin, TellsBreak}}, proofs.{RunsLaws.durable, StepsLaws.{gone_at, not_both}}}
+use Rattle.pm_segment.specs.Moment.{Moment, Told}
 
 -- where the book tells
 book_then : (book : Option (List BookEntry)) (P Q : List BookEntry → Type 0) → ((list : List BookEntry) → P list → Q list) → IfSome book P → IfSome book Q

@@ -3,7 +3,8 @@ use Rattle.std.{proofs.{Common.{◌≡◌, inl, inr, ℕ, List, [], length, Opti
 use Rattle.pm_query.specs.{pm_disk.{declared.disk.Which.{Which, TheVariants.{A, B}}, Files.{Files, file_of}}, pm_record.{StandsFor.{Content, StandsFor}, Found.IsClosed, Pair.{IsShut, PairStandsFor, Yields}, declared.fault.RedoFault.RedoFault}, declared.book.BookEntry.BookEntry, Book.{Base, history_of}, History.History, Durable.HoldsFrom}
 use Rattle.pm_query.specs.pm_record.declared.fault.RedoFault.TheVariants as fault
 use Rattle.pm_redo.{proofs.FileLaws.{epoch_is, not_closed}, specs.Found.{HaveEpoch, IsDamaged, IsFirstDamaged, IsReason}}
-use Rattle.pm_segment.{specs.{Moment.{Moment, Told}, Redos.SaysNothing, Runs.CanBeRead, Stands.{GoesFrom, HasBegun, HasHeld, IsSure, MeansWithin, Origin, most_bytes}}, proofs.Lawful.told_then}
+use Rattle.pm_segment.{specs.Moment.{Moment, Told}, proofs.Lawful.told_then}
+use Rattle.pm_store_apart.specs.{Redos.SaysNothing, Runs.CanBeRead, Stands.{GoesFrom, HasBegun, HasHeld, IsSure, MeansWithin, Origin, most_bytes}}
 
 -- ---- one file that stands for something
 

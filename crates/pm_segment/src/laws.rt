@@ -1,15 +1,16 @@
 //! What a store keeps of its run, for the layers above. The functions make no call of the disk.
 
-use crate::commits::Commits;
-use crate::segment::{Segment, history_laws};
+use crate::segment::Segment;
 use pm_disk::Disk;
 use pm_outside::Chronicle;
 use pm_query::BookEntry;
+use pm_store_apart::{Commits, history_laws};
 
 impl<D: Disk, B: Chronicle<BookEntry>> Segment<D, B> {
     ghost use Rattle.std.specs.Prelude.{◌≡◌, ◌+◌, [], length, IfSome};
     ghost use Rattle.pm_query.specs.Book.{Base};
-    ghost use Rattle.pm_segment.specs.{Fronts.{flushed_of, whole_of}, Moment.{Told, moment}, Runs.{CanBeRead, IsReplay, IsRun, LeavesAcknowledged, StaysClean}, Waits.needs_alone, Stands.{GoesFrom, IsSure, Origin}};
+    ghost use Rattle.pm_store_apart.specs.{Fronts.{flushed_of, whole_of}, Runs.{CanBeRead, IsReplay, IsRun, LeavesAcknowledged, StaysClean}, Waits.needs_alone, Stands.{GoesFrom, IsSure, Origin}};
+    ghost use Rattle.pm_segment.specs.Moment.{Told, moment};
 
     /// The law of a store after its first redo, in whichever generation. Where book and disk tell, and in the first
     /// generation wherever the book tells, the book is legal from its base; after a redo of the generation rows and log

@@ -5,28 +5,14 @@
 //! and its entries are noted after it, so that each call of the disk has its entry.
 
 ghost use Rattle.std.specs.Prelude.{◌≡◌, [], false};
-ghost use Rattle.pm_query.specs.{BookLaws.AckedNeverFalls, TickLaws.{PastStays, PresentIsWhole}};
-ghost use Rattle.pm_segment.specs.{Rests.IsAtRest, declared.commits.Commits.{Commits, TheVariants.AtOnce}};
+ghost use Rattle.pm_store_apart.specs.{Rests.IsAtRest, declared.commits.Commits.{Commits, TheVariants.AtOnce}};
 
-use crate::apart::Apart;
-use crate::children::Children;
-use crate::commit::Begun;
-use crate::commits::Commits;
-use crate::pass::Pass;
 use pm_disk::Disk;
 use pm_outside::Chronicle;
-use pm_query::{
-    BookEntry, Checkpointed, Seen, Staged, Store, StoreNo, acked_never_falls, past_stays,
-    present_is_whole,
-};
-use pm_rows::Rows;
+use pm_query::{BookEntry, Checkpointed, Seen, Staged, Store, StoreNo};
 use pm_sql::Script;
-use pm_stage::Stage;
+use pm_store_apart::{Apart, Begun, Commits, Pass};
 use std::alloc::{AllocError, Global};
-use std::marker::PhantomData;
-
-/// The generation in which a store begins.
-const FIRST_GENERATION: u32 = 1;
 
 /// What the children of a generation share: the rows, the log on its disk, and the book of what happened.
 ///
@@ -49,7 +35,8 @@ pub type Sole<D, B> = Segment<D, B>;
 impl<D: Disk, B: Chronicle<BookEntry>> Segment<D, B> {
     ghost use Rattle.std.specs.Prelude.{ℕ, ◌+◌, ◌≤◌, [], ◌∷◌, ◌++◌, List, map, Some, IfOk, IfErr, OnOk, OnErr, option_map};
     ghost use Rattle.pm_query.specs.declared.book.BookEntry.{BookEntry, TheVariants.{Gone, Opened}};
-    ghost use Rattle.pm_segment.specs.{Children.AreOthers, Moves.{IsAsBefore, Renews}, Fronts.flushed_of, Lending.IsHome, Moment.{apart_of, book_of, disk_of, moment}, Redos.is_broken, Stands.WaitsFrom};
+    ghost use Rattle.pm_store_apart.specs.{Children.AreOthers, Moves.{IsAsBefore, Renews}, Fronts.flushed_of, Lending.IsHome, Redos.is_broken, Stands.WaitsFrom};
+    ghost use Rattle.pm_segment.specs.Moment.{apart_of, book_of, disk_of, moment};
     ghost use Rattle.pm_outside.specs.Added.{Added};
 
     /// A store in its first generation, which has no rows before its redo. Where memory is short disk and book come back.
@@ -72,30 +59,14 @@ impl<D: Disk, B: Chronicle<BookEntry>> Segment<D, B> {
         ensures refused { IfErr result (λ parts.
             (parts.0 ≡ disk) × (B.entries parts.1 ≡ B.entries book)) }
     {
-        let mut book = book;
-        if book.reserve(1).is_err() {
-            return Err((disk, book));
+        match Apart::new(alloc, book) {
+            Ok(apart) => Ok(Segment {
+                apart,
+                disk,
+                commits,
+            }),
+            Err(book) => Err((disk, book)),
         }
-        book.note(BookEntry::Opened {
-            generation: FIRST_GENERATION,
-        });
-        let apart = Apart {
-            book,
-            generation: FIRST_GENERATION,
-            inside: Children::new(alloc),
-            rows: Rows::new(alloc),
-            live: None,
-            skipped: false,
-            stage: Stage::new(alloc, 0),
-            lent: false,
-            alloc,
-            kind: PhantomData,
-        };
-        Ok(Segment {
-            apart,
-            disk,
-            commits,
-        })
     }
 
     /// The generation that it is in.
@@ -109,10 +80,7 @@ impl<D: Disk, B: Chronicle<BookEntry>> Segment<D, B> {
     pub fn is_broken(&self) -> bool
         ensures { result ≡ is_broken (moment self.now).live }
     {
-        match self.apart.live {
-            None => false,
-            Some(live) => live.log.since.is_some(),
-        }
+        self.apart.is_broken()
     }
 
     /// How many commits its log has flushed, once it was read in this generation.
@@ -148,19 +116,7 @@ impl<D: Disk, B: Chronicle<BookEntry>> Segment<D, B> {
             disk,
             commits: _,
         } = self;
-        let Apart {
-            book,
-            generation: _,
-            inside: _,
-            rows: _,
-            live: _,
-            skipped: _,
-            stage: _,
-            lent: _,
-            alloc: _,
-            kind: _,
-        } = apart;
-        (disk, book)
+        (disk, apart.into_book())
     }
 
     /// What it has but for its disk, and the disk. It is of a store that stages commits.
@@ -196,7 +152,8 @@ impl<D: Disk, B: Chronicle<BookEntry>> Segment<D, B> {
 impl<D: Disk, B: Chronicle<BookEntry>> Store for Segment<D, B> {
     ghost use Rattle.std.{proofs.Common.{Some, ap}, specs.Prelude.{◌≡◌, ◌⊎◌, ◌∷◌, [], All, List, IfOk, OnOk, OnErr}};
     ghost use Rattle.pm_query.specs.{declared.{book.BookEntry.BookEntry, store.StoreNo.StoreNo}, Calls.{CheckpointNotes, EnterNotes, FlushNotes, HasReached, IsPast, LearnsFront, LearnsReason, LeaveNotes, MetAnother, MetLater, ReachesNoLess, RedoNotes, RunNotes, SeenNotes, new_pass, newcomer, with_front}, Limits.HasShortValues};
-    ghost use Rattle.pm_segment.specs.{Causes.{MakesNoCall, RunCause, SeenCause, staged_behind}, Flushes.{FlushCause, FlushesAll, WritesNothing}, Moment.{HasDiskOf, HasLogOf, disk_of, moment}, Moves.Moves, MovesLaws.{moves_none, moves_on, never_falls}, Passes.{Admits, user_in, view_of}, ReadsApart.AnswersEarly, Redos.{CheckpointCause, FullAtLast, GoesOnAsFound, HasReason, IsRead, LeavesFiles, LeavesUnread, MadeAfresh, MakesCalls}};
+    ghost use Rattle.pm_store_apart.specs.{Causes.{MakesNoCall, RunCause, SeenCause, staged_behind}, Flushes.{FlushCause, FlushesAll, WritesNothing}, Moves.Moves, MovesLaws.{moves_none, moves_on, never_falls}, Passes.{Admits, user_in, view_of}, ReadsApart.AnswersEarly, Redos.{CheckpointCause, FullAtLast, GoesOnAsFound, HasReason, IsRead, LeavesFiles, LeavesUnread, MadeAfresh, MakesCalls}};
+    ghost use Rattle.pm_segment.specs.Moment.{HasDiskOf, HasLogOf, disk_of, moment};
 
     type Pass = Pass;
 
@@ -348,15 +305,4 @@ impl<D: Disk, B: Chronicle<BookEntry>> Store for Segment<D, B> {
     ghost rises = { λ before now entries moves. never_falls (moment before).generation (moment now).generation moves.generation };
 
     ghost keeps = { λ before now entries moves fact one. one };
-}
-
-// The laws of histories, by which an entry keeps a run.
-pub(crate) fn history_laws()
-    ensures past { PastStays }
-    ensures present { PresentIsWhole }
-    ensures acked { AckedNeverFalls }
-{
-    past_stays();
-    present_is_whole();
-    acked_never_falls();
 }

@@ -3,7 +3,7 @@ use Rattle.std.{proofs.{Common.{◌≡◌, ◌≢◌, ◌⊎◌, inl, inr, ℕ, 
 use Rattle.std.specs.FinMap as finite
 use Rattle.pm_query.{specs.{pm_disk.{Cause.Rose, Files.Files}, pm_record.{OnDisk.GoesOn, Pair.Means, StandsFor.StandsFor, declared.fault.RedoFault.RedoFault, Calls.goes_two}, Book.{Base, IsLegal, history_of}, Durable.IsDurable, History.rows_of, declared.book.BookEntry.{BookEntry, TheVariants.{Opened, Attached, Redone, Answered, Released, Detached, Gone, CheckpointEnded, Broke, LogFull}}}, proofs.HistoryLaws.whole_number}
 use Rattle.pm_query.specs.pm_record.declared.fault.RedoFault.TheVariants as redo
-use Rattle.pm_segment.specs.{pm_redo.Found.IsReason, Fronts.whole_of, Moment.{Moment, Told}, pm_outside.Added.Added, Moves.{BreakIsShown, IsCountedFrom, IsShown, StaysUnread, Spans}, MovesLaws.break_shown, Redos.{IsAtLastEpoch, IsCleanAt, SaysNothing, StandsAfresh, is_broken}, Rests.Rests, Runs.{CanBeRead, IsRun}, Stands.{GoesFrom, HasBegun, HasGone, HasNoTick, HasWaited, IsBaseOf, IsOpening, IsSure as IsSureAt, Origin, WaitsFrom}, Unread.has_break, declared.live.Live.Live}
+use Rattle.pm_segment.specs.{pm_redo.Found.IsReason, Fronts.whole_of, Moment.{Moment, Told}, pm_outside.Added.Added, Moves.{BreakIsShown, IsCountedFrom, IsShown, StaysUnread, Spans}, MovesLaws.break_shown, Redos.{IsAtLastEpoch, IsCleanAt, SaysNothing, StandsAfresh, is_broken}, Rests.Rests, Runs.{CanBeRead, IsRun}, Stands.{GoesFrom, HasBegun, HasGone, HasNoTick, HasWaited, IsBaseOf, IsOpening, IsSure as IsSureAt, Origin, WaitsFrom}, Unread.has_break, pm_store_apart.declared.live.Live.Live}
 use Rattle.pm_server.{specs.{Ends.{AreTraced, EndsWell, HasRefused, IsCausedBy, IsFailedBy, IsKnownAt, IsSound}, Views.{DiskView, StoreView}, Story.{HasOneGeneration, IsClean, IsNoAnswer, IsNoOpening, IsStory, IsSure}, declared.end.{ServerEnd.{ServerEnd, TheVariants.{Clean, Abnormal, NoThread, NoMemory}}, StartWhy.TheVariants.{Redo, Killed}, Why.TheVariants.{AfterCrash, StartupFailed, RestartOff, GenerationsSpent}}}, proofs.UnredoneLaws.unredone}
 
 -- ---- where the book tells

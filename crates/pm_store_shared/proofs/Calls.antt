@@ -2,7 +2,7 @@
 use Rattle.std.{proofs.{Common.{◌≡◌, ◌≢◌, ◌⊎◌, inl, inr, ℕ, ◌+◌, ◌-◌, ◌<◌, ◌≤◌, ◌==◌, ◌&&◌, Bool, true, false, cond, List, [], ◌∷◌, ◌++◌, length, Option, None, Some, refl, sym, ◌∙◌, ap, subst, arith, append-nil}, lemmas.{Bool.{Decides.nat_tests, eq-eqb}, List.Quantifiers.Any-push}}, specs.Prelude.{Result, Ok, Err, OnErr, IfOk, Any, nat_eq}}
 use Rattle.pm_query.specs.{pm_sql.declared.stmt.Stmt.Stmt, declared.{book.BookEntry.{BookEntry, TheVariants.{Answered, Attached, Detached}}, store.{Staged.Staged, StoreNo.{StoreNo, TheVariants.{Stale, Disk, Broken, Full, Redo, NoMemory}}}}, Book.{AnswersUpTo, generation_of, present, times_attached}, Calls.{PassView, EnterNotes, NotesFault, NotesLostAnswer, RunNotes, LeaveNotes, new_pass, newcomer, user_of, with_front}}
 use Rattle.atomic_table.specs.Seated.{TableId}
-use Rattle.pm_segment.specs.{declared.pass.Pass.Pass, Moment.alone, Passes.{Admits, HasAnswer, view_of}}
+use Rattle.pm_segment.specs.{pm_store_apart.declared.pass.Pass.Pass, Moment.alone, Passes.{Admits, HasAnswer, view_of}}
 use Rattle.pm_store_shared.{specs.{declared.{place.Place.Place, views.{Noted.Noted, Taken.Taken, Hand.Hand, Lent.Lent, View.{View, TheVariants.Worker}}}, Grows.{Grew, NotesLeave, passes_entered}, GrowsLaws.entries_noted, Log.{AllOwn, Continues, noted_from}, Passes.{Among, live, renewed_pass, without_pass}, Quiet.AllQuiet, Rule.taken, Stands.{Knows, Stands}, Told.{HandMay, MayGive, Seated, Tells, TokenModel, TookFor, Turns, first_of, given_back, is_own_of, passes_of, past_of, between, resting, token_of, with_held, TellsHand}}, proofs.{Logs.{among_live, among-snoc, among_up_to, known_at, known_less, known_on, known_snoc, live-less, live-snoc, up_to-less, up_to-snoc}, Moving.PlaceMoves, Stores.{admits_known, answer_on, generation_on, knows_moves, present_on, quiet_own, quiet_times, stands_in, times_on}, Unchanged.turns_none}}
 
 -- ---- what the calls note

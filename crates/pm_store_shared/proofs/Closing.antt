@@ -1,7 +1,7 @@
 -- The shared side when all tokens are joined.
 use Rattle.std.{proofs.{Common.{◌≡◌, ⊎_elim, ℕ, ◌+◌, ◌<◌, List, [], ◌∷◌, ◌++◌, map, length, length-append, sym, refl, ap, ◌∙◌, subst, arith}}, specs.Prelude.{Option, None, Some, IfSome, slice_get}}
 use Rattle.atomic_table.specs.Seated.{TableId}
-use Rattle.pm_segment.specs.{pm_query.declared.book.BookEntry.BookEntry, declared.pass.Pass.Pass}
+use Rattle.pm_segment.specs.{pm_query.declared.book.BookEntry.BookEntry, pm_store_apart.declared.pass.Pass.Pass}
 use Rattle.pm_store_shared.{specs.{declared.views.{Joined.Joined, Noted.Noted, Taken.Taken}, Log.IsShuffle, Places.EachOnce, Told.{AllContinue, AreNewTokens, AreShares, AreTokens, owns, pasts, new_token, shared_with, Seated, SharedModel, TokenModel, IsWhole, Tells, desk_resting, first_of, generation_in, is_own_of, joined_of}}, proofs.{Keeps.got_end, Places.each_once}}
 
 pub map-length : {A C : Type 0} (f : A → C) (xs : List A) → length (map f xs) ≡ length xs

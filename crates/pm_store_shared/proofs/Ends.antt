@@ -7,7 +7,7 @@ use prog.Atomic.{either}
 use Rattle.std.specs.Prelude.{Option, Some, None, slice_get}
 use Rattle.atomic_table.specs.Table as table
 use Rattle.atomic_table.{specs.Table.{State, step, keeps, takes, gives, stepped, opening, Allows, Joins, Splits}, proofs.Lists.{at_set, exchanged}}
-use Rattle.pm_segment.specs.{pm_query.{pm_facts.{Lists.at_end, Numbers.{sum_below, sum_same}}, declared.book.BookEntry.{BookEntry, TheVariants.Opened}, Book.generation_of}, declared.pass.Pass.Pass}
+use Rattle.pm_segment.specs.{pm_query.{pm_facts.{Lists.at_end, Numbers.{sum_below, sum_same}}, declared.book.BookEntry.{BookEntry, TheVariants.Opened}, Book.generation_of}, pm_store_apart.declared.pass.Pass.Pass}
 use Rattle.pm_store_shared.{specs.{declared.views.{Joined.Joined, Taken.Taken, Hand.Hand, Desk.Desk, View.{View, TheVariants.{Vacant, Founding, Master, Worker, Spent}}}, Log.{Continues, Line, book_of, lines, placed, AllBelow}, Passes.{live, AllUpTo, AllKnown}, Rule.{Cell, Where, home, out, Loan, IsLender, HasLent, what_is_lent, HasTaken, IsSeat, FitsDesk, Fits, AreCounted, Holds, Kept, taken}, Told.{with_held, Opens, Founded, desk_on, new_desk, new_hand, dealt_more, next_hand, taken_in, TookAlone}}, proofs.{Keeps.{put, at_put, put_here, put_else, some_at, got_end, got_below, got_some, one_view, held_at, took_home}, Logs.{placed-new, below-none, below-more}}}
 
 sum_more : (n : ℕ) (f : ℕ → ℕ) → sum_below (n + 1) f ≡ sum_below n f + f n

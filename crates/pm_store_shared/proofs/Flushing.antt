@@ -1,7 +1,7 @@
 -- A flush in two turns of the store.
 use Rattle.std.{proofs.Common.{◌≡◌, ℕ, List, [], ◌++◌, Option, None, Some, refl, subst}, specs.Prelude.{Result, Ok, Err, IfOk}}
 use Rattle.pm_query.specs.{declared.{book.BookEntry.BookEntry, store.StoreNo.{StoreNo, TheVariants.{Stale, Disk, Broken, Full, Redo, NoMemory}}}, Calls.MetLater}
-use Rattle.pm_segment.specs.{declared.{apart.Apart.Apart, batch.{Batch.Batch, Written.Written}, live.Live.Live, pass.Pass.Pass}, Flushes.FlushCause, Fronts.flushed_of, Lending.{IsUnder, Marks}, Moment.Moment, Rests.IsAtRest}
+use Rattle.pm_segment.specs.{pm_store_apart.declared.{apart.Apart.Apart, batch.{Batch.Batch, Written.Written}, live.Live.Live, pass.Pass.Pass}, Flushes.FlushCause, Fronts.flushed_of, Lending.{IsUnder, Marks}, Moment.Moment, Rests.IsAtRest}
 use Rattle.pm_store_shared.{specs.{declared.{place.Place.Place, views.{Lent.Lent, Noted.Noted}}, Grows.Grew, GrowsLaws.grew_on, Rule.taken, Stands.{Knows, Stands, StandsOver}, Told.{Seated, Tells, TokenModel, between}}, proofs.Learns.HasTold}
 
 -- ---- what a flush told

@@ -4,7 +4,7 @@ use mathlib.Core.Option.{none, some}
 use lib.ListN.{get_elem?}
 use Rattle.std.specs.Prelude.{Option, Some, None}
 use Rattle.atomic_table.{specs.Table.{step, gives, stepped, Allows}, proofs.Lists.{at_set, set_here}}
-use Rattle.pm_segment.specs.{pm_query.{declared.book.BookEntry.BookEntry, Book.generation_of}, declared.pass.Pass.Pass}
+use Rattle.pm_segment.specs.{pm_query.{declared.book.BookEntry.BookEntry, Book.generation_of}, pm_store_apart.declared.pass.Pass.Pass}
 use Rattle.pm_store_shared.{specs.{declared.views.{Taken.Taken, Hand.Hand, Desk.Desk, View.{View, TheVariants.{Vacant, Founding, Master, Worker, Spent}}}, Log.{Line, AllOwn, NoneOwn, book_of, lines, noted_from, all_behind, placed, placed_rest}, Passes.AllKnown, Rule.{Cell, Where, home, out, Loan, IsLender, HasLent, what_is_lent, HasTaken, Fits, AreCounted, Holds, Kept, taken}, Told.{Gave, log_in, Turns, HandStep, HandMay, DeskStep, DeskMay}}, proofs.{Keeps.{Relent, at_below, put, at_put, put_here, put_else, counted_put, St, held_at, relent}, Logs.{continues_lines, rest-append, rest-own, rest-none, placed-append, placed-own, placed-other, placed-none, below-append, below-lines, below-none, book-append, book-lines, book-length, known_on}}}
 
 module _ {S F L : Type 0} (Is : F → List BookEntry → S → Option L → Type 0) (Knows : List BookEntry → S → Pass → Type 0) where

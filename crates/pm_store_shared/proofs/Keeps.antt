@@ -9,7 +9,7 @@ use prog.Atomic.{either}
 use Rattle.std.{proofs.lemmas.Option.same_Some, specs.Prelude.{Option, Some, None, slice_get}}
 use Rattle.atomic_table.specs.Table as table
 use Rattle.atomic_table.{specs.Table.{State, step, keeps, takes, stepped, Allows}, proofs.Lists.{at_set, set_again, exchanged}}
-use Rattle.pm_segment.specs.{pm_query.{pm_facts.Numbers.{sum_below, sum_put}, declared.book.BookEntry.BookEntry, Book.{generation_of, times_attached}}, declared.pass.Pass.Pass}
+use Rattle.pm_segment.specs.{pm_query.{pm_facts.Numbers.{sum_below, sum_put}, declared.book.BookEntry.BookEntry, Book.{generation_of, times_attached}}, pm_store_apart.declared.pass.Pass.Pass}
 use Rattle.pm_store_shared.{specs.{declared.views.{Taken.Taken, View.{View, TheVariants.{Vacant, Founding, Master, Worker, Spent}}}, Log.{Line, book_of, AllBelow}, Passes.{live, AllUpTo, AllKnown}, Rule.{Cell, Where, home, out, Loan, IsLender, HasLent, what_is_lent, IsThere, HasTaken, Fits, AreCounted, Holds, IsHeld, Kept, taken}, Told.{KnowsLent, Relends, StandsWith, number_of, with_held, Tells, Took, Turns, IsMine}}, proofs.{Logs.{all_continue, member_below}, JoinedLaws.owned_at}}
 
 abbrev pick : {P C : Type 0} → Dec P → C → C → C

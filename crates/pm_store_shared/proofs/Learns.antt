@@ -3,7 +3,7 @@ use Rattle.std.{proofs.Common.{◌≡◌, inl, inr, ℕ, List, [], ◌++◌, Opt
 use Rattle.pm_disk.specs.declared.disk.Disk as Disk
 use Rattle.pm_query.specs.{pm_facts.Bools.never_both, Calls.{DiskFact, unread_for, flushed_to, FlushNotes, LearnsFront, LearnsReason, MetLater, User}, declared.{book.BookEntry.BookEntry, store.StoreNo.{StoreNo, TheVariants.NoMemory}}, pm_record.declared.fault.RedoFault.RedoFault}
 use Rattle.atomic_table.specs.Seated.{TableId}
-use Rattle.pm_segment.specs.{declared.{apart.Apart.Apart, live.Live.Live, pass.Pass.Pass, segment.Segment.Segment}, Fronts.flushed_of, Moment.{Moment, moment}, Redos.HasReason, Unread.has_break, pm_redo.Found.IsReason}
+use Rattle.pm_segment.specs.{pm_store_apart.declared.{apart.Apart.Apart, live.Live.Live, pass.Pass.Pass}, declared.segment.Segment.Segment, Fronts.flushed_of, Moment.{Moment, moment}, Redos.HasReason, Unread.has_break, pm_redo.Found.IsReason}
 use Rattle.pm_store_shared.{specs.{declared.{place.Place.Place, views.{Lent.Lent, Noted.Noted}}, Behind.BehindAt, Laid.IsLaid, Learned.{IsUnread, Learned, WasFlushed}, Rule.taken, Stands.{Knows, Stands}, Told.{Seated, Tells, TokenModel, between, first_of, token_of}}, proofs.{Moving.{PlaceMoves, laid_behind, moved}, Stores.{Over, stands_over}}}
 
 -- ---- behind the entries that a call found

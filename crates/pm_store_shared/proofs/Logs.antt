@@ -2,7 +2,7 @@
 use Rattle.std.{proofs.{Common.{◌≡◌, ◌≢◌, inl, inr, ℕ, zero, suc, ◌+◌, ◌<◌, ◌≤◌, ◌==◌, ◌&&◌, Bool, true, false, cond, List, [], ◌∷◌, ◌++◌, length, sym, refl, ap, ◌∙◌, subst, arith, append-nil, append_assoc, ne_eqb, eq-eqb}, lemmas.Bool.{false≢true, Decides.nat_tests}}, specs.Prelude.{Some, slice_get}}
 use mathlib.Core.Logic.{dite}
 use native.Mathlib.Decide.{ℕ_discrete}
-use Rattle.pm_segment.specs.{pm_query.{declared.book.BookEntry.BookEntry, pm_facts.Numbers.sum_below}, declared.pass.Pass.Pass}
+use Rattle.pm_segment.specs.{pm_query.{declared.book.BookEntry.BookEntry, pm_facts.Numbers.sum_below}, pm_store_apart.declared.pass.Pass.Pass}
 use Rattle.pm_store_shared.specs.{Log.{Line, is_own, AllOwn, NoneOwn, book_of, lines, noted, noted_behind, noted_from, all_behind, placed, placed_rest, AllBelow, Continues}, Passes.{Among, live, without_pass, AllUpTo, AllKnown}, Told.{AllContinue, pasts}, declared.views.Joined.Joined}
 
 abbrev one : Bool → ℕ

@@ -1,6 +1,6 @@
 -- What a call makes of the store in the slot, and of what is lent of it.
 use Rattle.std.{proofs.Common.{◌≡◌, List, [], ◌++◌, ℕ, Option, None, Some, true, refl, sym, ◌∙◌, ap, subst}, specs.Prelude.{Result, Ok, Err, IfOk, is_some}}
-use Rattle.pm_segment.specs.{pm_query.declared.{book.BookEntry.BookEntry, store.StoreNo.StoreNo}, declared.{apart.Apart.Apart, commits.Commits.{TheVariants.Staged}, pass.Pass.Pass, segment.Segment.Segment}, Apart.Grows, ApartLaws.{admits_alone, admits_over, grown_under, joined, parted}, Lending.{IsHome, Lends}, Moment.{alone, apart_of, disk_of, moment, over}, Moves.Moves, Passes.{Admits, IsStaged}, Rests.IsAtRest}
+use Rattle.pm_segment.specs.{pm_query.declared.{book.BookEntry.BookEntry, store.StoreNo.StoreNo}, pm_store_apart.declared.{apart.Apart.Apart, commits.Commits.TheVariants.Staged, pass.Pass.Pass}, declared.segment.Segment.Segment, Apart.Grows, ApartLaws.{admits_alone, admits_over, grown_under}, PartLaws.{joined, parted}, Lending.{IsHome, Lends}, Moment.{alone, apart_of, disk_of, moment, over}, Moves.Moves, Passes.{Admits, IsStaged}, Rests.IsAtRest}
 use Rattle.pm_store_shared.{specs.{declared.{place.Place.Place, views.{Lent.Lent, View.{View, TheVariants.{Founding, Master, Spent, Vacant, Worker}}}}, Behind.BehindAt, Laid.{HasDisk, IsLaid}, Log.AllOwn, Rule.taken, Stands.{Knows, Stands, StandsOver}, Told.{IsFor, IsMine, Relends, Seated, StandsWith, Tells}}, proofs.Stores.{Over, behind_moves, over_some}}
 
 -- The store stands after these entries too, its generation is the same, and what was taken is so still.

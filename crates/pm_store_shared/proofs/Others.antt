@@ -1,7 +1,7 @@
 -- The calls of a token that answer no script.
 use Rattle.std.{proofs.Common.{◌≡◌, ℕ, Bool, List, ◌++◌, Option, None, sym, ◌∙◌, subst}, specs.Prelude.{Result, Ok, Err}}
 use Rattle.pm_segment.specs.pm_record.declared.fault.RedoFault.TheVariants as redo
-use Rattle.pm_segment.specs.{pm_query.{declared.{book.BookEntry.BookEntry, store.{Checkpointed.{Checkpointed, TheVariants.{Done, Skipped, NotDue}}, Seen.{Seen, TheVariants.{Released as CanBeSent, NotFlushed}}, StoreNo.{StoreNo, TheVariants.{Stale, Disk, Broken, Full, Redo, NoMemory}}}}, Book.generation_of, Calls.{PassView, CheckpointNotes, FlushNotes, RedoNotes, SeenNotes, user_of}}, declared.pass.Pass.Pass, Moment.alone, Passes.{Admits, HasAnswer, view_of}}
+use Rattle.pm_segment.specs.{pm_query.{declared.{book.BookEntry.BookEntry, store.{Checkpointed.{Checkpointed, TheVariants.{Done, Skipped, NotDue}}, Seen.{Seen, TheVariants.{Released as CanBeSent, NotFlushed}}, StoreNo.{StoreNo, TheVariants.{Stale, Disk, Broken, Full, Redo, NoMemory}}}}, Book.generation_of, Calls.{PassView, CheckpointNotes, FlushNotes, RedoNotes, SeenNotes, user_of}}, pm_store_apart.declared.pass.Pass.Pass, Moment.alone, Passes.{Admits, HasAnswer, view_of}}
 use Rattle.pm_store_shared.{specs.{declared.{place.Place.Place, views.{Lent.Lent, Noted.Noted}}, Passes.Among, Quiet.AllQuiet, Rule.taken, Stands.{Knows, Stands}, Told.{Seated, Tells, between}}, proofs.{Logs.known_at, Stores.{answer_on, quiet_own, stands_in}}}
 
 by : (es fs : List BookEntry) → es ≡ fs → AllQuiet fs → AllQuiet es

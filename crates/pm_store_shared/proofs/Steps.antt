@@ -4,7 +4,7 @@ use mathlib.Core.Option.{none}
 use prog.Atomic.{either}
 use Rattle.std.{specs.Prelude.{Option, Some, None}}
 use Rattle.atomic_table.specs.Table.{step, rest, opening, Allows, Joins, Splits}
-use Rattle.pm_segment.specs.{pm_query.declared.book.BookEntry.{BookEntry, TheVariants.Opened}, declared.pass.Pass.Pass}
+use Rattle.pm_segment.specs.{pm_query.declared.book.BookEntry.{BookEntry, TheVariants.Opened}, pm_store_apart.declared.pass.Pass.Pass}
 use Rattle.pm_store_shared.{specs.{declared.views.{Noted.Noted, Joined.Joined, Taken.Taken, View.{View, TheVariants.{Vacant, Founding, Master, Worker, Spent}}}, Rule.Kept, Told.{Seated, number_of, Took, TookAlone, Gave, Opens, Founded, IsMine, MayGive, with_held, Tells, resting, desk_resting, dealt_more, next_hand, taken_in}}, proofs.{Keeps.takes_it, Gives.{gives_hand, gives_desk}, Ends.{begins, opens, founds, deals, gathers, takes_alone}}}
 
 module _ {S F L : Type 0} (Is : F → List BookEntry → S → Option L → Type 0) (Knows : List BookEntry → S → Pass → Type 0) where

@@ -1,6 +1,6 @@
 -- What a store's calls make of what holds of it.
 use Rattle.std.{proofs.{Common.{◌≡◌, ◌⊎◌, inl, inr, ℕ, ◌≤◌, true, List, [], ◌∷◌, ◌++◌, Option, None, Some, refl, sym, ◌∙◌, ap, subst, append_assoc, append-nil}, lemmas.{Bool.false≢true, List.{Sums.fold-append}}}, specs.Prelude.{IfSome, Any, fold}}
-use Rattle.pm_segment.specs.{pm_query.{pm_facts.Lists.Any-append, declared.book.BookEntry.{BookEntry, TheVariants.{Opened, Attached, Redone, Answered, Released, Detached, Gone, CheckpointEnded, Broke, LogFull}}, Book.{AnswersUpTo, generation_after, generation_of, present, present_after, times_after, times_attached}}, pm_record.Calls.goes_two, declared.{apart.Apart.Apart, pass.Pass.Pass}, Children.times_behind, Moment.{Moment, alone, over}, pm_outside.Added.Added, Moves.{Moves}, MovesLaws.{counts_on, stands_on, unread_now}, Passes.{Admits, HasAnswer, IsInside, IsStaged}, Rests.IsAtRest, Stands.{Origin}, Unread.has_break, UnreadLaws.{break_before, break_behind, redo_parts}}
+use Rattle.pm_segment.specs.{pm_query.{pm_facts.Lists.Any-append, declared.book.BookEntry.{BookEntry, TheVariants.{Opened, Attached, Redone, Answered, Released, Detached, Gone, CheckpointEnded, Broke, LogFull}}, Book.{AnswersUpTo, generation_after, generation_of, present, present_after, times_after, times_attached}}, pm_record.Calls.goes_two, pm_store_apart.declared.{apart.Apart.Apart, pass.Pass.Pass}, Children.times_behind, Moment.{Moment, alone, over}, pm_outside.Added.Added, Moves.Moves, MovesLaws.{counts_on, stands_on, unread_now}, Passes.{Admits, HasAnswer, IsInside, IsStaged}, Rests.IsAtRest, Stands.Origin, Unread.has_break, UnreadLaws.{break_before, break_behind, redo_parts}}
 use Rattle.pm_disk.specs.declared.disk.Disk as Disk
 use Rattle.pm_store_shared.specs.{declared.{place.Place.Place, views.Lent.Lent}, Behind.BehindAt, Log.{is_own, AllOwn}, Quiet.{IsQuiet, AllQuiet}, Rule.taken, Stands.{Knows, Stands, StandsOver}, Told.StandsWith}
 

@@ -1,7 +1,7 @@
 -- A store that is given back as it was taken.
 use Rattle.std.{proofs.Common.{◌≡◌, ℕ, ◌+◌, List, [], ◌∷◌, ◌++◌, refl, sym, ◌∙◌, ap, subst, append-nil, append_assoc}, specs.Prelude.{Option, None, Some, Result, Ok, Err}}
 use Rattle.pm_query.specs.{declared.{book.BookEntry.BookEntry, store.StoreNo.StoreNo}, Book.{generation_of, times_attached}}
-use Rattle.pm_segment.specs.declared.pass.Pass.{Pass}
+use Rattle.pm_segment.specs.pm_store_apart.declared.pass.Pass.{Pass}
 use Rattle.pm_store_shared.{specs.{declared.views.{Noted.Noted, Taken.Taken, View.{View, TheVariants.{Vacant, Founding, Master, Worker, Spent}}}, Log.{IsShuffle}, Passes.{AllKnown, live}, Rule.{AreCounted, taken}, Told.{HasNoneLent, IsFor, IsMine, IsNothing, MayGive, Relends, Seated, Tells, TellsHand, TookFor, Turns, given_back, number_of, owns, passes_of, resting, with_held}}, proofs.Logs.known_on}
 
 pub turns_none : (log : List BookEntry) (ps : List Pass) → Turns log [] ps ps

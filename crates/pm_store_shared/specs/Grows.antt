@@ -1,6 +1,6 @@
 -- What a token's calls make of its list.
 use Rattle.std.specs.Prelude.{◌≡◌, ℕ, Bool, true, false, List, [], ◌∷◌, ◌++◌, Result, Ok, Err}
-use Rattle.pm_segment.specs.{pm_query.declared.{book.BookEntry.{BookEntry, TheVariants.Detached}, store.StoreNo.StoreNo}, declared.pass.Pass.Pass}
+use Rattle.pm_segment.specs.{pm_query.declared.{book.BookEntry.{BookEntry, TheVariants.Detached}, store.StoreNo.StoreNo}, pm_store_apart.declared.pass.Pass.Pass}
 use Rattle.pm_store_shared.specs.{declared.views.Noted.Noted, Log.{Continues, entries_of}, Told.TokenModel}
 
 -- The token is the same one, its list got exactly these entries, at its end, and what it finds begins with what it found.

@@ -1,6 +1,6 @@
 -- A store in the slot.
 use Rattle.std.specs.Prelude.{◌≡◌, Some}
-use Rattle.pm_segment.specs.{declared.{commits.Commits.TheVariants.Staged, segment.Segment.Segment}, Lending.IsHome, Moment.{apart_of, disk_of, moment}, Rests.IsAtRest}
+use Rattle.pm_segment.specs.{pm_store_apart.declared.commits.Commits.TheVariants.Staged, declared.segment.Segment.Segment, Lending.IsHome, Moment.{apart_of, disk_of, moment}, Rests.IsAtRest}
 use Rattle.pm_store_shared.specs.declared.place.Place.{Place}
 
 -- it lies there with its disk

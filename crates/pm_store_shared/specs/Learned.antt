@@ -3,7 +3,7 @@ use Rattle.std.specs.Prelude.{◌≡◌, ℕ, false, List, Option, None, Some, I
 use Rattle.pm_query.specs.pm_disk.declared.disk.Disk as Disk
 use Rattle.pm_query.specs.{pm_disk.Files.Files, Calls.{DiskFact, unread_for, flushed_to}, declared.book.BookEntry.BookEntry, pm_record.declared.fault.RedoFault.RedoFault}
 use Rattle.pm_segment.specs.pm_outside.declared.chronicle.Chronicle as Chronicle
-use Rattle.pm_segment.specs.{declared.{apart.Apart.Apart, live.Live.Live}, Fronts.flushed_of, Moment.over, Rests.IsAtRest, pm_redo.Found.IsReason, Unread.{has_break, has_redo}}
+use Rattle.pm_segment.specs.{pm_store_apart.declared.{apart.Apart.Apart, live.Live.Live}, Fronts.flushed_of, Moment.over, Rests.IsAtRest, pm_redo.Found.IsReason, Unread.{has_break, has_redo}}
 use Rattle.pm_store_shared.specs.{Behind.BehindAt, Log.Continues}
 
 -- Where no fault of the disk is among these entries, and no redo has ended, this is why the files can't be read that a store was handed.

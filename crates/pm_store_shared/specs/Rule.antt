@@ -4,7 +4,7 @@ use mathlib.Core.Option.{some, none}
 use mathlib.Core.Option as maybe
 use lib.ListN.{get_elem?}
 use Rattle.atomic_table.specs.Table.{State}
-use Rattle.pm_segment.specs.{pm_query.{pm_facts.Numbers.sum_below, declared.book.BookEntry.BookEntry, Book.{generation_of, times_attached}}, declared.pass.Pass.Pass}
+use Rattle.pm_segment.specs.{pm_query.{pm_facts.Numbers.sum_below, declared.book.BookEntry.BookEntry, Book.{generation_of, times_attached}}, pm_store_apart.declared.pass.Pass.Pass}
 use Rattle.pm_store_shared.specs.{declared.views.{Joined.Joined, Taken.Taken, Hand.Hand, Desk.Desk, View.{View, TheVariants.{Vacant, Founding, Master, Worker, Spent}}}, Log.{Line, book_of, placed, placed_rest, AllBelow, Continues}, Passes.{live, AllUpTo, AllKnown}}
 
 -- a token: its seat, or the shared side's once it is joined, and its passes

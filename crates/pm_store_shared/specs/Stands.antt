@@ -1,6 +1,6 @@
 -- What holds of the store in the slot, and of what is lent of it.
 use Rattle.std.specs.Prelude.{◌≡◌, List, Option, None, Some}
-use Rattle.pm_segment.specs.{pm_query.declared.book.BookEntry.BookEntry, declared.{apart.Apart.Apart, pass.Pass.Pass}, Lending.{IsHome, IsUnder}, Moment.over, Passes.{HasAnswer, IsStaged}, Rests.IsAtRest}
+use Rattle.pm_segment.specs.{pm_query.declared.book.BookEntry.BookEntry, pm_store_apart.declared.{apart.Apart.Apart, pass.Pass.Pass}, Lending.{IsHome, IsUnder}, Moment.over, Passes.{HasAnswer, IsStaged}, Rests.IsAtRest}
 use Rattle.pm_store_shared.specs.{declared.{place.Place.Place, views.{Lent.Lent}}, Behind.BehindAt}
 
 -- With its disk it stands after these entries, and nothing is lent. Without it, it does so over the disk as it was lent, in the

@@ -1,7 +1,7 @@
 -- What each step tells.
 use Rattle.std.specs.Prelude.{◌≡◌, ◌≢◌, ℕ, ◌+◌, ◌≤◌, List, [], ◌∷◌, ◌++◌, length, map, Option, Some, None, Result, Ok, Err, slice_get}
 use Rattle.atomic_table.specs.{Table.{Me, Step}, Seated.TableId}
-use Rattle.pm_segment.specs.{pm_query.{declared.{book.BookEntry.{BookEntry, TheVariants.Opened}, store.StoreNo.{StoreNo, TheVariants.Stale}}, Book.{generation_of, times_attached}}, declared.pass.Pass.Pass}
+use Rattle.pm_segment.specs.{pm_query.{declared.{book.BookEntry.{BookEntry, TheVariants.Opened}, store.StoreNo.{StoreNo, TheVariants.Stale}}, Book.{generation_of, times_attached}}, pm_store_apart.declared.pass.Pass.Pass}
 use Rattle.pm_store_shared.specs.{declared.views.{Noted.Noted, Joined.Joined, Taken.Taken, Hand.Hand, Desk.Desk, View.{View, TheVariants.{Vacant, Founding, Master, Worker, Spent}}}, Log.{noted, noted_from, all_behind, AllOwn, Continues, NoneOwn, IsShuffle}, Passes.{live, AllUpTo, AllKnown}, Renewed.AreAttached, Rule.{Cell, AreCounted, taken}}
 
 -- what a call's entries do to its passes and to who is attached

@@ -8,22 +8,18 @@
 //! shuffle of the book.
 #![tactic(auto)]
 
-mod caller;
 mod deed;
-mod due;
 mod holding;
 mod inner;
-mod joining;
 mod marking;
 mod place;
 mod plays;
 mod shared;
-mod sleepers;
 mod token;
 mod token_store;
 mod views;
 
-pub use caller::Caller;
+pub use pm_store_turns::Caller;
 pub use shared::{Shared, Tokens};
 pub use token::Token;
 pub use token_store::TokenStore;

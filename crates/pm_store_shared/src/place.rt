@@ -1,5 +1,5 @@
 //! The store as it lies in the table's slot.
-ghost use Rattle.pm_segment.specs.{Moment.moment, declared.commits.Commits.Commits};
+ghost use Rattle.pm_segment.specs.{Moment.moment, pm_store_apart.declared.commits.Commits.Commits};
 ghost use Rattle.std.specs.Prelude.{◌≡◌};
 ghost use Rattle.pm_store_shared.specs.Laid.{HasDisk, IsLaid};
 

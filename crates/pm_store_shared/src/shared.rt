@@ -1,21 +1,19 @@
 //! The shared side of the store.
 ghost use Rattle.std.specs.{Prelude.{◌≡◌, ℕ, ◌+◌, ◌<◌, ◌≤◌, ◌++◌, List, [], ◌∷◌, None, Some, IfErr, IfOk, IfSome, OnErr, OnOk, length, map, slice_get, vec_capacity, MatchOption}, Arc.arc_value};
-ghost use Rattle.pm_segment.specs.{pm_query.declared.book.BookEntry.{BookEntry, TheVariants.{Gone, Opened}}, Moment.{disk_of, moment}, declared.commits.Commits.TheVariants.Staged};
+ghost use Rattle.pm_segment.specs.{pm_query.declared.book.BookEntry.{BookEntry, TheVariants.{Gone, Opened}}, Moment.{disk_of, moment}, pm_store_apart.declared.commits.Commits.TheVariants.Staged};
 ghost use Rattle.atomic_table.specs.Seated.{TableId};
 ghost use Rattle.pm_store_shared.specs.{Behind.Behind, Ending.EndsSafely, Log.{IsShuffle, noted}, Places.EachOnce, Renewed.AreApart, declared.views.View.TheVariants.Vacant, Told.{AllContinue, AreNewTokens, AreShares, AreTokens, HasRenewed, IsBlank, IsNewShared, IsSmall, SharedModel, TokenModel, DeskRests, known_by, new_token, owns, pasts, shared_of, shared_with}};
 
-use crate::due::Due;
 use crate::holding::{Holder, give_renewed, take_whole};
 use crate::inner::Inner;
-use crate::joining::Joining;
 use crate::place::Place;
 use crate::plays::{Deals, Founds, Gathers, Guarded, Opening, TakesAlone};
-use crate::sleepers::Sleepers;
 use crate::token::Token;
 use pm_disk::Disk;
 use pm_outside::Chronicle;
 use pm_query::BookEntry;
 use pm_segment::{Commits, Segment};
+use pm_store_turns::{Due, Joining, Sleepers};
 use std::alloc::{AllocError, Global};
 use std::marker::{Brand, Model};
 use std::sync::{Arc, Wait};

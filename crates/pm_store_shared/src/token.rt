@@ -33,6 +33,11 @@ impl<D: Disk + Drop, B: Chronicle<BookEntry> + Drop> Model for Token<D, B> {
 }
 
 impl<D: Disk + Drop, B: Chronicle<BookEntry> + Drop> Token<D, B> {
+    /// Whether the log is due for a checkpoint and nobody was told before.
+    pub(crate) fn is_told_due(&self) -> bool {
+        self.inner.due.tell()
+    }
+
     /// Lets a child in.
     pub fn enter<R: Wait>(&mut self, rt: &R, pid: u32, generation: u32) -> Result<Pass, StoreNo>
         ensures notes { (entries : List BookEntry) × Grew entries self.old self.new

@@ -3,13 +3,13 @@ ghost use Rattle.std.{specs.Prelude.None, proofs.Common.refl};
 ghost use Rattle.pm_segment.specs.{Passes.view_of, pm_query.Book.generation_of};
 ghost use Rattle.pm_store_shared.specs.{Grows.Grew, GrowsLaws.{generation_rises, grew_none, grew_on}, Learned.Learned, LearnedLaws.learned_still, Passes.Among};
 
-use crate::caller::Caller;
 use crate::token::Token;
 use pm_disk::Disk;
 use pm_outside::{Chronicle, Clock};
 use pm_query::{BookEntry, Checkpointed, Seen, Staged, Store, StoreNo};
 use pm_segment::Pass;
 use pm_sql::Script;
+use pm_store_turns::Caller;
 use std::sync::Wait;
 
 /// A token, with the runtime that lets its calls wait, and with what calls the writer and the checkpointer.

@@ -1,5 +1,5 @@
 use Rattle.std.{proofs.Common.{sym, ◌∙◌, Some, None, refl}}
-use Rattle.pm_segment.specs.{declared.commits.Commits.TheVariants.Staged, Passes.view_of, pm_query.Calls.{user_of}}
+use Rattle.pm_segment.specs.{pm_store_apart.declared.commits.Commits.TheVariants.Staged, Passes.view_of, pm_query.Calls.user_of}
 use Rattle.pm_store_shared.{specs.{Told.{token_of}}, proofs.{Calls.{called, rests_again, token_admits, token_may_quiet}, Flushing.{lent_there, marks_met, marks_told}, Learns.flush_learns, Moving.{Marked, marks, with_disk}, Others.{flush_free, flush_quiet, token_knows_same}, Stores.quiet_own}}
 use Rattle.pm_store_shared.proofs.marking.finish.Goals as goal
 

@@ -1,4 +1,5 @@
-use Rattle.pm_segment.{specs.Moment.moment, proofs.{Checkpoints.clean_stands, Lawful.stays_clean, Waiting.fronts_of}}
+use Rattle.pm_segment.{specs.Moment.moment, proofs.Lawful.stays_clean}
+use Rattle.pm_store_apart.proofs.{CheckpointsLaws.clean_stands, WaitingLaws.fronts_of}
 use Rattle.pm_segment.proofs.segment.Segment.stays_clean.Goals as goal
 
 pub returns : goal.returns

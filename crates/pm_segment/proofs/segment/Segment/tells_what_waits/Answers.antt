@@ -1,4 +1,4 @@
-use Rattle.pm_segment.proofs.Waiting.{fronts_of, needs_of}
+use Rattle.pm_store_apart.proofs.WaitingLaws.{fronts_of, needs_of}
 use Rattle.pm_segment.proofs.segment.Segment.tells_what_waits.Goals as goal
 
 pub returns-clause-fronts : goal.returns-clause-fronts

@@ -1,5 +1,5 @@
 use Rattle.std.proofs.{Common.{◌∙◌, refl}, lemmas.Result.IfOk-weaker}
-use Rattle.pm_segment.specs.ApartLaws.{admits_over}
+use Rattle.pm_store_apart.specs.ApartLaws.{admits_over}
 use Rattle.pm_segment.proofs.segment.SegmentStore.enter.Goals as goal
 
 pub invariant_of-self : goal.invariant_of-self

@@ -1,4 +1,4 @@
-use Rattle.pm_segment.{specs.ApartLaws.{admits_alone, admits_over}, proofs.Flushing.flushes_none}
+use Rattle.pm_store_apart.{specs.ApartLaws.{admits_alone, admits_over}, proofs.FlushingLaws.flushes_none}
 use Rattle.pm_segment.proofs.segment.SegmentStore.flush.Goals as goal
 
 pub flush-requires-clause-admits : goal.flush-requires-clause-admits

@@ -1,5 +1,5 @@
 use Rattle.std.proofs.Common.{◌∙◌, inl, refl}
-use Rattle.pm_segment.specs.ApartLaws.{admits_alone}
+use Rattle.pm_store_apart.specs.ApartLaws.{admits_alone}
 use Rattle.pm_segment.proofs.segment.SegmentStore.leave.Goals as goal
 
 pub leave-requires : goal.leave-requires

@@ -1,4 +1,4 @@
-use Rattle.pm_segment.specs.ApartLaws.{admits_alone, admits_over}
+use Rattle.pm_store_apart.specs.ApartLaws.{admits_alone, admits_over}
 use Rattle.pm_segment.proofs.segment.SegmentStore.redo.Goals as goal
 
 pub redo-requires-clause-admits : goal.redo-requires-clause-admits

@@ -1,6 +1,7 @@
 use Rattle.std.{proofs.{Common.{◌≡◌, ◌∙◌, List, [], All, Result, Ok, Err, refl, sym, ap, subst}, lemmas.Result.{IfOk-weaker, err_from_is_err_and}}, specs.Prelude.{IfOk, OnErr}}
 use Rattle.pm_query.specs.{pm_rows.{Fold.RowMap}, pm_sql.declared.stmt.Stmt.Stmt, Answer.commit_of, Calls.{ReachesNoLess, with_front}, Limits.HasShortValues, declared.store.{Staged.Staged, StoreNo.StoreNo}}
-use Rattle.pm_segment.{specs.{declared.{commit.Begun.Begun, commits.Commits.TheVariants.AtOnce, pass.Pass.Pass}, ApartLaws.{admits_alone, admits_over}, Begun.{HasBegun, HasRun}, Causes.MakesNoCall, Moment.over_as, MovesLaws.moves_on, Passes.view_of}, proofs.{Begins.{cause_as, notes_as, staged_never}, Early.never_early}}
+use Rattle.pm_store_apart.{specs.{declared.{commit.Begun.Begun, commits.Commits.TheVariants.AtOnce, pass.Pass.Pass}, Begun.{HasBegun, HasRun}, Causes.MakesNoCall, MovesLaws.moves_on, Passes.view_of, ApartLaws.{admits_alone, admits_over}}, proofs.{BeginsLaws.{cause_as, notes_as, staged_never}, EarlyLaws.never_early}}
+use Rattle.pm_segment.specs.Moment.{over_as}
 use Rattle.pm_segment.proofs.segment.SegmentStore.run.Goals as goal
 
 pub begin-requires : goal.begin-requires

@@ -1,5 +1,5 @@
 use Rattle.std.proofs.Common.{◌∙◌, refl}
-use Rattle.pm_segment.specs.ApartLaws.{admits_alone, admits_over}
+use Rattle.pm_store_apart.specs.ApartLaws.{admits_alone, admits_over}
 use Rattle.pm_segment.proofs.segment.SegmentStore.seen.Goals as goal
 
 pub seen-requires-clause-admits : goal.seen-requires-clause-admits

@@ -1,5 +1,5 @@
 use Rattle.std.proofs.{Common.{rules, ◌≡◌, [], sym, ap, ◌∙◌, Some, None, Err, subst, refl}, lemmas.Option.same_Some}
-use Rattle.pm_segment.specs.{declared.commits.Commits.TheVariants.Staged, Passes.view_of, Rests.IsAtRest, pm_query.{Book.generation_of, Calls.{MetLater, FlushNotes, user_of}}}
+use Rattle.pm_segment.specs.{pm_store_apart.declared.commits.Commits.TheVariants.Staged, Passes.view_of, Rests.IsAtRest, pm_query.{Book.generation_of, Calls.{MetLater, FlushNotes, user_of}}}
 use Rattle.pm_store_shared.{specs.{Told.past_of, Passes.Among}, proofs.{Calls.{called, rests_again, stale_told, token_admits, token_may_quiet}, Flushing.{cause_met, cause_told, grew_then}, Learns.flush_learns, Moving.{answered, lends, with_disk, without_disk}, Others.{flush_free, flush_quiet, token_knows_same}, Stores.quiet_own}}
 use Rattle.pm_store_shared.proofs.token.Token.flush_store.Goals as goal
 

@@ -1,6 +1,0 @@
-use Rattle.std.proofs.Common.{take}
-use Rattle.pm_segment.specs.Children.{AreOthers}
-use Rattle.pm_segment.proofs.children.Children.others.Given as goal
-
-abbrev pub invariant-loop-at : goal.invariant-loop-at
-invariant-loop-at l = AreOthers (take l.at l.initial.self-inside.pids.items) l.gone l.others.items
