@@ -90,10 +90,15 @@ impl LogFile {
     /// Makes durable what was written, with the length that it gave the file, by the call that PostgreSQL uses on this
     /// system unless it is told otherwise. After a sync that failed every call of the file fails.
     pub fn sync(&mut self) -> Result<(), FileFault> {
+        let was_open = self.handle.is_some();
         self.find()?;
         let Some(file) = &self.handle else {
             return Ok(());
         };
+        if !was_open {
+            // It was settled as it was found, and nothing has been written since.
+            return Ok(());
+        }
         let synced = file.sync_data();
         self.is_lost = synced.is_err();
         self.told(Step::Sync, synced)

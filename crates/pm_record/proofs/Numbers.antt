@@ -1,6 +1,6 @@
 -- Numbers of so many bytes, within ranges.
-use Rattle.std.{proofs.{Common.{◌≡◌, ℕ, zero, suc, ◌+◌, ◌*◌, ◌/◌, ◌^◌, ◌%◌, ◌<◌, ◌≤◌, Bool, true, false, List, [], ◌∷◌, length, get_or, cond, Ok, Err, refl, sym, ap, mul-le-mul_right, ◌-◌, subst, ◌∙◌, arith, inl, inr, add-one}, lemmas.{Nat.{be_bytes_2, be_bytes_4, be_bytes_8, from_be_bytes-to_be_bytes_2, from_be_bytes-to_be_bytes_4, from_be_bytes-to_be_bytes_8, le-div, div_below, mod_below, div-add-mod'}, Bool.{cases_lt, leb-true, le-leb, and_parts, or_cases}}, Math.{Bool.or-true, Nat.{pow-succ', pow-le-pow_right}}}, specs.Int.{w8, w16, w32, w64, to_be_bytes, bytes_high_first}}
-use Rattle.pm_record.{specs.{Reading.{Read, ◌>>=◌, byte_at, number_at, in_part, may_be, IsWithin}, declared.number.Ranges.Ranges}, proofs.Readers.{ok, ok_is, err_not_ok, bind_ok, IsBytes, Reading, Spelled, Behind, same_words, field_then, done_reads, byte_reads}}
+use Rattle.std.{proofs.{Common.{◌≡◌, ℕ, zero, suc, ◌+◌, ◌*◌, ◌/◌, ◌^◌, ◌%◌, ◌<◌, ◌≤◌, Bool, true, false, List, [], ◌∷◌, ◌++◌, length, take, drop, get_or, cond, Ok, Err, refl, sym, ap, mul-le-mul_right, ◌-◌, subst, ◌∙◌, arith, inl, inr, add-one}, lemmas.{List.{length-take-le, take-append-drop}, Nat.{be_bytes_2, be_bytes_4, be_bytes_8, from_be_bytes-to_be_bytes_2, from_be_bytes-to_be_bytes_4, from_be_bytes-to_be_bytes_8, le-div, div_below, mod_below, div-add-mod'}, Bool.{cases_lt, leb-true, le-leb, and_parts, or_cases}}, Math.{Bool.or-true, Seq.take-length, Nat.{pow-succ', pow-le-pow_right}}}, specs.Int.{w8, w16, w32, w64, to_be_bytes, bytes_high_first}}
+use Rattle.pm_record.{specs.{Reading.{Read, ◌>>=◌, byte_at, number_at, in_part, may_be, IsWithin}, declared.number.Ranges.Ranges}, proofs.Readers.{ok, ok_is, err_not_ok, bind_ok, IsBytes, bytes_in_front, Reading, Spelled, Behind, same_words, field_then, done_reads, byte_reads}}
 
 -- the number that bytes are, after what is read of it
 abbrev pub horner : ℕ → List ℕ → ℕ
@@ -252,3 +252,32 @@ module _ (may : ℕ → ℕ → Bool) (size i value : ℕ) (rest : List ℕ) (to
       goes_on e =
           let k : size - (i + 1) ≡ size - 1 - i = omega (arith, lt) in
           ap (λ (m : ℕ). number_at may m n behind) k ∙ ap (λ (x : ℕ). number_at may (size - 1 - i) x behind) sum ∙ sym (one true e)
+
+-- ---- a number in front that is within the ranges
+
+pub horner_more : (value : ℕ) (bytes : List ℕ) (i : ℕ) → i < length bytes → horner value (take (suc i) bytes) ≡ horner value (take i bytes) * 256 + get_or bytes i 0
+horner_more value [] i lt = absurd (omega (arith, lt))
+horner_more value (b ∷ bytes) zero lt = refl
+horner_more value (b ∷ bytes) (suc i) lt = horner_more (value * 256 + b) bytes i (omega (arith, lt))
+
+pub horner_step : (bytes : List ℕ) (i : ℕ) → i < length bytes → horner 0 (take (i + 1) bytes) ≡ horner 0 (take i bytes) * 256 + get_or bytes i 0
+horner_step bytes i lt = rw add-one (horner_more 0 bytes i lt)
+
+pub horner_whole : (bytes : List ℕ) (i : ℕ) → i ≡ length bytes → horner 0 (take i bytes) ≡ horner 0 bytes
+horner_whole bytes i is = ap (horner 0) (ap (λ (n : ℕ). take n bytes) is ∙ take-length bytes)
+
+pub front_byte : (size : ℕ) (bytes front : List ℕ) → IsBytes bytes → front ≡ take size bytes → (i : ℕ) → get_or front i 0 < 256
+front_byte size bytes front fits is i =
+    let parts = subst IsBytes (sym (take-append-drop size bytes)) fits in
+    bytes_by_place front (subst IsBytes (sym is) (bytes_in_front (take size bytes) (drop size bytes) parts)) i
+
+pub number_front : (ranges : Ranges) (size : ℕ) (bytes : List ℕ) → size ≤ length bytes → IsBytes bytes → IsWithin ranges (horner 0 (take size bytes)) → number_at (may_be ranges) size 0 bytes ≡ Ok (horner 0 (take size bytes), drop size bytes)
+number_front ranges size bytes le fits is =
+    let front = take size bytes in
+    let whole : front ++ drop size bytes ≡ bytes = take-append-drop size bytes in
+    let few : length front ≡ size = length-take-le size bytes le in
+    let small = bytes_in_front front (drop size bytes) (subst IsBytes (sym whole) fits) in
+    let r = horner_range size 0 front few small in
+    let may = ranges_from ranges 0 size (horner 0 front) is (omega arith) (omega (arith, r.1)) in
+    ap (number_at (may_be ranges) size 0) (sym whole)
+    ∙ (number_reads (IsWithin ranges) (may_be ranges) (ranges_to ranges) (ranges_from ranges) size 0 may).again (horner 0 front) front (drop size bytes) (few, small, refl, is)

@@ -1,5 +1,5 @@
 -- Texts of so many bytes.
-use Rattle.std.{proofs.{Common.{◌≡◌, ℕ, zero, suc, ◌+◌, ◌-◌, ◌<◌, ◌≤◌, Bool, true, false, List, [], ◌∷◌, ◌++◌, length, length-append, take, drop, take_at, drop_at, Option, Some, None, Result, Ok, Err, cond, ap₂, refl, sym, ap, subst, ◌∙◌, arith}, lemmas.Bool.{leb-true, le-leb}}, specs.{Str.IsUtf8, Option.unwrap_or}}
+use Rattle.std.{proofs.{Common.{◌≡◌, ℕ, zero, suc, ◌+◌, ◌-◌, ◌<◌, ◌≤◌, Bool, true, false, List, [], ◌∷◌, ◌++◌, length, length-append, take, drop, take_at, drop_at, Option, Some, None, Result, Ok, Err, cond, ap₂, refl, sym, ap, subst, ◌∙◌, arith}, lemmas.{Bool.{leb-true, le-leb}, List.{length-take-le, take-append-drop}}}, specs.{Str.IsUtf8, Option.{IsSome, unwrap_or}}}
 use Rattle.pm_utf8.specs.{declared.Awaited.Awaited, Utf8.{boundary, after, run, IsSound}, States.{boundary_sound, after_sound, byte_below, fill, needs}, Steps.{run_first, run_step}, Characters.{accepts, is_utf8}}
 use Rattle.pm_record.{specs.Reading.{Read, ◌>>=◌, byte_at, text_at, may_follow, has_room, next_of, left_of}, proofs.Readers.{IsBytes, ok, Reading, Behind, same_words, field_then, done_reads, made_reads, byte_reads}}
 
@@ -113,3 +113,19 @@ text_front n bytes fits none =
           (ap₂ (λ (x y : List ℕ). ok (x, y)) (sym front) (sym behind), subst IsUtf8 (sym front) w.1.1, omega (arith, ap length parts, length-append p.0 p.1, w.1.0))
       | Err left ↦ λ e f. absurd cc
     ] refl none
+
+-- a text in front
+pub text_there : (n : ℕ) (bytes : List ℕ) → n ≤ length bytes → IsUtf8 (take n bytes) → text_at n boundary bytes ≡ Ok (take n bytes, drop n bytes)
+text_there n bytes le is = ap (text_at n boundary) (sym (take-append-drop n bytes)) ∙ (utf8_reads n).again (take n bytes) (take n bytes) (drop n bytes) (length-take-le n bytes le, is, refl)
+
+-- reading stops where no text is in front
+pub text_stops : (n : ℕ) (bytes : List ℕ) → IsBytes bytes → (n ≤ length bytes → IsUtf8 (take n bytes) → ⊥) → IsSome (left_of (text_at n boundary bytes))
+text_stops n bytes fits refuse =
+    elim (left_of (text_at n boundary bytes)) as (λ o. o ≡ left_of (text_at n boundary bytes) → IsSome o) [
+      | None ↦ λ e. let there = text_front n bytes fits e in absurd (refuse there.2 there.1)
+      | Some left ↦ λ e. refl
+    ] refl
+
+pub stopped : (left : Option ℕ) → IsSome left → None ≡ left → ⊥
+stopped None some e = absurd cc
+stopped (Some x) some e = absurd cc

@@ -7,6 +7,7 @@ ghost use Rattle.pm_record.specs.{Reading.{Gives, byte_at}, Bodies.{body_ranges,
 use crate::commit::{count_ranges, read_commit};
 use crate::fault::Unread;
 use crate::number::{Ranges, first_of, read_number};
+use crate::puts::with_commit;
 use pm_rows::{MAX_COMMIT_BYTES, MAX_COMMITS, MAX_ROWS, MAX_ROWS_BYTES, Rows};
 use std::alloc::Global;
 
@@ -30,7 +31,7 @@ fn commit_into(
     alloc: Global,
     c: u64,
     left: u64,
-    mut rows: Rows,
+    rows: Rows,
     bytes: &[u8],
 ) -> Result<(u64, Rows, &[u8]), Unread>
     requires { (c ≤ max_commits) × (left < 2 ^ 32) }
@@ -39,7 +40,7 @@ fn commit_into(
     ensures less { IfOk result (λ x. x.0 ≤ left) }
 {
     let (commit, left, rest) = read_commit(alloc, c, left, bytes)?;
-    rows.apply(&commit)?;
+    let rows = with_commit(rows, &commit)?;
     if !is_within(&rows) {
         return Err(Unread::Bad {
             left: rest.len() + 1,

@@ -17,6 +17,7 @@ mod laws;
 mod length;
 mod number;
 mod put;
+mod puts;
 mod text;
 
 pub use bytes::Bytes;

@@ -1,6 +1,6 @@
 //! Numbers within ranges, high byte first.
 
-ghost use Rattle.std.specs.Prelude.{◌≡◌, ◌<◌, ◌≤◌, ◌^◌, [], ◌∷◌, IfSome, IfNone, IfOk};
+ghost use Rattle.std.specs.Prelude.{◌≡◌, ◌<◌, ◌≤◌, ◌^◌, [], ◌∷◌, true, Ok, IfSome, IfNone, IfOk, IsTrue};
 ghost use Rattle.pm_record.specs.Reading.{Gives, IsWithin, may_be, number_at};
 
 use crate::fault::Unread;
@@ -56,8 +56,55 @@ pub fn first_of(bytes: &[u8]) -> Option<(u8, &[u8])>
     }
 }
 
+// Whether a number is within the ranges.
+fn is_within(ranges: &Ranges, value: u64) -> bool
+    ensures { IsTrue result → IsWithin ranges.now value }
+{
+    ranges.low <= value && value <= ranges.high || ranges.low2 <= value && value <= ranges.high2
+}
+
+// A number of so many bytes, where all of it is there and is within the ranges: then each of its bytes may stand where
+// it does, and none needs a test of its own.
+fn number_in_front<'a>(bytes: &'a [u8], size: usize, ranges: &Ranges) -> Option<(u64, &'a [u8])>
+    requires { size ≤ 8 }
+    ensures read { IfSome result (λ x. number_at (may_be ranges.now) size 0 bytes.now
+        ≡ Ok (x.0, x.1.now)) }
+    ensures within { IfSome result (λ x. IsWithin ranges.now x.0) }
+{
+    if bytes.len() < size {
+        return None;
+    }
+    let (front, rest) = bytes.split_at(size);
+    let mut value: u64 = 0;
+    for byte in front {
+        value = value * 256 + u64::from(*byte);
+    }
+    if is_within(ranges, value) {
+        Some((value, rest))
+    } else {
+        None
+    }
+}
+
 /// A number of so many bytes.
 pub fn read_number<'a>(
+    bytes: &'a [u8],
+    size: usize,
+    ranges: &Ranges,
+) -> Result<(u64, &'a [u8]), Unread>
+    requires { size ≤ 8 }
+    ensures read { Gives (λ x. (x.0, x.1.now)) result
+        (number_at (may_be ranges.now) size 0 bytes.now) }
+    ensures within { 0 < size → IfOk result (λ x. IsWithin ranges.now x.0) }
+{
+    match number_in_front(bytes, size, ranges) {
+        Some(read) => Ok(read),
+        None => read_by_bytes(bytes, size, ranges),
+    }
+}
+
+// A number of so many bytes, with the place of the first that may not stand where it does.
+fn read_by_bytes<'a>(
     bytes: &'a [u8],
     size: usize,
     ranges: &Ranges,

@@ -1,6 +1,6 @@
 //! Texts, and fields that hold them.
 
-ghost use Rattle.std.specs.Prelude.{◌≡◌, true, false, IfSome, IfNone};
+ghost use Rattle.std.specs.Prelude.{◌≡◌, true, false, Ok, IfSome, IfNone, IsSome};
 ghost use Rattle.pm_utf8.specs.Utf8.{boundary};
 ghost use Rattle.pm_record.specs.{Reading.{Gives, left_of, may_follow, next_of, text_at}, Changes.{key_at, string_at}};
 
@@ -50,16 +50,30 @@ fn text_left(count: usize, bytes: &[u8]) -> Option<usize>
     None
 }
 
-/// A text of so many bytes.
+// A text of so many bytes, where one is in front, and the bytes after it.
+fn text_in_front(count: usize, bytes: &[u8]) -> Option<(&str, &[u8])>
+    ensures some { IfSome result (λ x. text_at count boundary bytes.now ≡ Ok (x.0.now, x.1.now)) }
+    ensures none { IfNone result (IsSome (left_of (text_at count boundary bytes.now))) }
+{
+    if bytes.len() < count {
+        return None;
+    }
+    let (front, rest) = bytes.split_at(count);
+    match str::from_utf8(front) {
+        Ok(text) => Some((text, rest)),
+        Err(_) => None,
+    }
+}
+
+/// A text of so many bytes. Only where there is none are the bytes looked at one by one.
 pub fn read_text(alloc: Global, count: usize, bytes: &[u8]) -> Result<(Text, &[u8]), Unread>
     ensures { Gives (λ x. (x.0, x.1.now)) result (text_at count boundary bytes.now) }
 {
-    if let Some(left) = text_left(count, bytes) {
+    let Some((text, rest)) = text_in_front(count, bytes) else {
+        let Some(left) = text_left(count, bytes) else {
+            unreachable!()
+        };
         return Err(Unread::Bad { left });
-    }
-    let (front, rest) = bytes.split_at(count);
-    let Ok(text) = str::from_utf8(front) else {
-        unreachable!()
     };
     Ok((Text::of(alloc, text)?, rest))
 }

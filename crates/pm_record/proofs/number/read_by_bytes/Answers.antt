@@ -1,6 +1,6 @@
 use Rattle.std.proofs.Common.{◌+◌, ◌*◌, arith, ap, ◌∙◌, sym}
 use Rattle.pm_record.proofs.Numbers.{is_done, is_short, is_wrong, goes_on, fits_64, number_in}
-use Rattle.pm_record.proofs.number.read_number.Goals as goal
+use Rattle.pm_record.proofs.number.read_by_bytes.Goals as goal
 
 pub returns-in_default-clause-read : goal.returns-in_default-clause-read
 returns-in_default-clause-read c = is_short _ _ _ _ _ _ c.loop-i.invariant.0 c.loop-i-test.true c.in_default.ensures.none
