@@ -1,7 +1,7 @@
 -- What a child noted, put together from what the store's calls note.
 use Rattle.std.proofs.{Common.{◌≡◌, ℕ, true, false, List, [], ◌∷◌, ◌++◌, All, Option, Some, Ok, Err, refl, sym, ◌∙◌, ap, subst, arith}, lemmas.List.{append-nil, Elements.{All-nil, All-cons, All-append}}}
 use Rattle.pm_exit.specs.declared.child.Kind.{Kind}
-use Rattle.pm_query.{specs.{declared.{book.BookEntry.{BookEntry, TheVariants.{Attached, CheckpointEnded}}, store.{StoreNo.StoreNo, Checkpointed.{Checkpointed, TheVariants.{Done, Skipped, NotDue}}}}, Calls.{DiskFact, unread_for, LearnsReason, User, newcomer, EnterNotes, CheckpointNotes, MetAnother, MetLater}}, proofs.NotedLaws.{GoesInTurn, behind_none}}
+use Rattle.pm_query.{specs.{declared.{book.BookEntry.{BookEntry, TheVariants.{Attached, CheckpointEnded}}, store.{StoreNo.StoreNo, Stepping.{Stepping, TheVariants.{More, Done, Skipped, NotDue}}}}, Calls.{DiskFact, unread_for, LearnsReason, User, newcomer, EnterNotes, CheckpointNotes, StepNotes, MetAnother, MetLater}}, proofs.NotedLaws.{GoesInTurn, behind_none}}
 use Rattle.pm_query.specs.declared.store.StoreNo.TheVariants as stores
 use Rattle.pm_aux.specs.{declared.cause.AuxiliaryEnd.{AuxiliaryEnd, TheVariants.{Redone, Flushed, Closed, LeftOut, Refused, TurnedAway, ToldToTerminate, ToldToQuit, Killed}}, Ends.{fault_by, lets_go, IsMetBehind, LearnsWhy}, Work.{IsPassing, ClosesBy, Checkpoints, Does, HasWorked, HasEntered, LeavesIf}}
 
@@ -111,19 +111,20 @@ refused_passing user stores.NoMemory noted notes = notes
 one_passes : (pid : ℕ) (entry : BookEntry) → IsPassing pid entry → All (IsPassing pid) (entry ∷ [])
 one_passes pid entry passes = All-cons (IsPassing pid) entry [] passes (All-nil (IsPassing pid))
 
-passes : (user : User) (came : Checkpointed) (noted : List BookEntry) → CheckpointNotes user false (Ok came) noted → All (IsPassing user.pid) noted
+passes : (user : User) (came : Stepping) (noted : List BookEntry) → StepNotes user (Ok came) noted → All (IsPassing user.pid) noted
+passes user More noted notes = rw notes (All-nil (IsPassing user.pid))
 passes user (Done epoch) noted notes = rw notes (one_passes user.pid (CheckpointEnded user.pid true false) (true, refl))
 passes user Skipped noted notes = rw notes (one_passes user.pid (CheckpointEnded user.pid false false) (false, refl))
 passes user (NotDue behind) noted notes = rw notes.2 (All-nil (IsPassing user.pid))
 
--- checkpoints, and one more
-pub passes_more : {S : Type 0} (notes : List BookEntry → S → S → Type 0) (who user : User) (came : Checkpointed) (before between now : S) → GoesInTurn notes → who ≡ user
-    → (passing : List BookEntry) × notes passing before between × All (IsPassing user.pid) passing → (entries : List BookEntry) × notes entries between now × CheckpointNotes who false (Ok came) entries
+-- checkpoints, and one step more
+pub passes_more : {S : Type 0} (notes : List BookEntry → S → S → Type 0) (who user : User) (came : Stepping) (before between now : S) → GoesInTurn notes → who ≡ user
+    → (passing : List BookEntry) × notes passing before between × All (IsPassing user.pid) passing → (entries : List BookEntry) × notes entries between now × StepNotes who (Ok came) entries
     → (passing : List BookEntry) × notes passing before now × All (IsPassing user.pid) passing
 passes_more notes who user came before between now in_turn same passing call = (
   passing.0 ++ call.0,
   in_turn before between now passing.0 call.0 passing.1 call.1,
-  All-append (IsPassing user.pid) passing.0 call.0 passing.2 (passes user came call.0 (subst (λ (u : User). CheckpointNotes u false (Ok came) call.0) same call.2)),
+  All-append (IsPassing user.pid) passing.0 call.0 passing.2 (passes user came call.0 (subst (λ (u : User). StepNotes u (Ok came) call.0) same call.2)),
 )
 
 -- checkpoints, and then a call that noted nothing

@@ -3,8 +3,8 @@ use Rattle.std.proofs.{Common.{◌≡◌, ◌≢◌, inl, inr, ℕ, Bool, true, 
 use Rattle.pm_supervisor.specs.{pm_exit.declared.child.Kind.Kind, declared.Reason.Reason}
 use Rattle.pm_supervisor.specs.pm_exit.declared.child.Kind.TheVariants as kinds
 use Rattle.pm_child_life.{specs.{declared.{life.GateNo.GateNo, standing.Standing.Standing}, Life.{Child, Told, Kill, Quit, Terminate, Checkpoint, was_told}, Attention.{Attention, attention, Stands, IsAttentive}}, proofs.AttentionLaws.given_of}
-use Rattle.pm_query.specs.declared.{book.BookEntry.BookEntry, store.StoreNo.{StoreNo, TheVariants.NoMemory}}
-use Rattle.pm_aux.{specs.{declared.cause.AuxiliaryEnd.{AuxiliaryEnd, TheVariants.{Redone, Flushed, Closed, LeftOut, Refused, TurnedAway, ToldToTerminate, ToldToQuit, Killed}}, Ends.{done_by, lets_go, attached_behind}, Signals.{ends_by, ends_of, IsToldTo, EndsAtOnce, HeedsTerminate, HeedsTold, StandsAt, IsHurried, EndsInside}, Work.{GoesOn, NotesInside}, Runs.{Runner, runner, user_in, at_end, EndsOutside, NotesBehind, MayBeShort, IsRunOf}}, proofs.Listening.{Tells, tells_asked, tells_met}}
+use Rattle.pm_query.specs.{declared.{book.BookEntry.BookEntry, store.StoreNo.{StoreNo, TheVariants.NoMemory}}, Calls.User}
+use Rattle.pm_aux.{specs.{declared.cause.AuxiliaryEnd.{AuxiliaryEnd, TheVariants.{Redone, Flushed, Closed, LeftOut, Refused, TurnedAway, ToldToTerminate, ToldToQuit, Killed}}, Ends.{done_by, lets_go, attached_behind}, Signals.{ends_by, ends_of, IsToldTo, EndsAtOnce, HeedsTerminate, HeedsTold, StandsAt, IsHurried, EndsInside}, Work.{ClosesBy, GoesOn, NotesInside}, Runs.{Runner, runner, user_in, at_end, EndsOutside, NotesBehind, MayBeShort, IsRunOf}}, proofs.Listening.{Tells, tells_asked, tells_met}}
 
 -- ---- what ends a child at once
 
@@ -19,6 +19,16 @@ stands_by false None cause standing same is = absurd cc
 
 at_once : (cause : AuxiliaryEnd) (standing : Standing) → ends_of standing ≡ Some cause → StandsAt cause standing × EndsAtOnce cause
 at_once cause standing is = stands_by standing.kill standing.quit cause standing refl is
+
+-- then a checkpointer notes nothing last
+pub closes_at_once : (user : User) (kill : Bool) (quit : Option Reason) (cause : AuxiliaryEnd) → ends_by kill quit ≡ Some cause → ClosesBy user cause []
+closes_at_once user true quit cause is =
+    let e : Killed ≡ cause = cc in
+    subst (λ (c : AuxiliaryEnd). ClosesBy user c []) e refl
+closes_at_once user false (Some reason) cause is =
+    let e : ToldToQuit reason ≡ cause = cc in
+    subst (λ (c : AuxiliaryEnd). ClosesBy user c []) e refl
+closes_at_once user false None cause is = absurd cc
 
 once_not_short : (cause : AuxiliaryEnd) → EndsAtOnce cause → cause ≡ Refused NoMemory → ⊥
 once_not_short cause once is = subst EndsAtOnce is once

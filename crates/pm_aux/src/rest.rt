@@ -15,3 +15,13 @@ pub(crate) fn rest<C: Clock, F: Life>(clock: &C, life: &mut F, standing: &mut St
     clock.pause();
     listen(life, standing);
 }
+
+/// Lets a moment pass, so that others get the store between two steps of a checkpoint, and takes the signals after it.
+pub(crate) fn breathe<C: Clock, F: Life>(clock: &C, life: &mut F, standing: &mut Standing)
+    requires { IsAttentive (attention (F.told life.old) (F.child life.old) standing.old) }
+    ensures listens { Listens 1 (attention (F.told life.old) (F.child life.old) standing.old)
+        (attention (F.told life.new) (F.child life.new) standing.new) }
+{
+    clock.pause_briefly();
+    listen(life, standing);
+}

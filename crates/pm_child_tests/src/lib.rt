@@ -29,4 +29,6 @@ mod signals;
 #[cfg(test)]
 mod slow;
 #[cfg(test)]
+mod stepping;
+#[cfg(test)]
 mod worker;

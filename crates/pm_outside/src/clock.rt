@@ -19,6 +19,11 @@ pub trait Clock {
     /// Lets some time pass. It may end at once where there was a ring or a call since the pause before.
     fn pause(&self);
 
+    /// Lets about a millisecond pass, however long a pause is, so that others get what the caller has let go of.
+    fn pause_briefly(&self) {
+        self.pause()
+    }
+
     /// Ends the pause of the clock that this one was made from.
     fn ring(&self);
 

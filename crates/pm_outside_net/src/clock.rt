@@ -6,12 +6,12 @@ use mio::unix::SourceFd;
 use mio::{Events, Interest, Poll, Token};
 use pm_outside::Clock;
 use std::alloc::{AllocError, Global};
-use std::io;
 use std::net::Net;
 use std::os::fd::{AsRawFd, RawFd};
 use std::sync::atomic::{AtomicU64, Ordering};
 use std::sync::{Arc, Mutex, Wait};
 use std::time::{self, Duration, Instant};
+use std::{io, thread};
 
 /// How long a pause of the supervisor's clock is at most, in milliseconds.
 const TICK_MS: u64 = 200;
@@ -21,6 +21,9 @@ const PAUSE_MS: u64 = 10;
 
 /// The same of a child that rests.
 const REST_MS: u64 = 60_000;
+
+/// How long a brief pause is, in milliseconds.
+const BRIEF_MS: u64 = 1;
 
 const LISTENER: Token = Token(0);
 
@@ -144,6 +147,11 @@ impl<R: Wait + time::Clock + Copy + Drop> Clock for ServerClock<R> {
             }
             Side::Child(pauses) => pauses.pause(&self.rt, &self.bells),
         }
+    }
+
+    // No call ends it, and it doesn't count among the pauses.
+    fn pause_briefly(&self) {
+        thread::sleep(&self.rt, Duration::from_millis(BRIEF_MS));
     }
 
     // The supervisor's clock was made from none.

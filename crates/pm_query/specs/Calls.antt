@@ -2,8 +2,9 @@
 use Rattle.std.specs.Prelude.{◌≡◌, ◌≢◌, ◌⊎◌, ◌≤◌, ◌<◌, ◌↔◌, ◌++◌, ℕ, Bool, true, false, List, [], ◌∷◌, Option, None, Some, Result, Ok, Err, IsTrue}
 use Rattle.pm_record.specs.{pm_rows.declared.commit.Change.Change, declared.fault.RedoFault.RedoFault}
 use Rattle.pm_record.specs.declared.fault.RedoFault.TheVariants as redo
+use Rattle.pm_query.specs.declared.store.Stepping.TheVariants as steps
 use Rattle.pm_sql.specs.declared.stmt.Stmt.{Stmt}
-use Rattle.pm_query.specs.{Answer.Writes, declared.{item.Item.Item, book.BookEntry.{BookEntry, TheVariants.{Attached, Redone, Answered, Released, Detached, CheckpointEnded, Broke, LogFull}}, store.{Staged.Staged, Seen.{Seen, TheVariants.{Released as CanBeSent, NotFlushed}}, Checkpointed.{Checkpointed, TheVariants.{Done, Skipped, NotDue}}, StoreNo.{StoreNo, TheVariants.{Stale, Disk, Broken, Full, Redo, NoMemory}}}}}
+use Rattle.pm_query.specs.{Answer.Writes, declared.{item.Item.Item, book.BookEntry.{BookEntry, TheVariants.{Attached, Redone, Answered, Released, Detached, CheckpointEnded, Broke, LogFull}}, store.{Staged.Staged, Seen.{Seen, TheVariants.{Released as CanBeSent, NotFlushed}}, Checkpointed.{Checkpointed, TheVariants.{Done, Skipped, NotDue}}, Stepping.Stepping, StoreNo.{StoreNo, TheVariants.{Stale, Disk, Broken, Full, Redo, NoMemory}}}}}
 
 -- ---- a pass
 
@@ -175,6 +176,20 @@ CheckpointNotes user clean (Err (Broken since)) entries = RepeatsFault user.pid 
 CheckpointNotes user clean (Err (Full need room)) entries = (room ≡ 0) × (entries ≡ [])
 CheckpointNotes user clean (Err (Redo fault)) entries = ⊥
 CheckpointNotes user clean (Err NoMemory) entries = entries ≡ []
+
+-- what the one step of a checkpoint is that came to this
+abbrev pub step_of : Checkpointed → Stepping
+step_of (Done epoch) = steps.Done epoch
+step_of Skipped = steps.Skipped
+step_of (NotDue behind) = steps.NotDue behind
+
+-- A step notes what the checkpoint notes that comes to its end by it, and before that nothing.
+abbrev pub StepNotes : User → Result Stepping StoreNo → List BookEntry → Type 0
+StepNotes user (Ok steps.More) entries = entries ≡ []
+StepNotes user (Ok (steps.Done epoch)) entries = CheckpointNotes user false (Ok (Done epoch)) entries
+StepNotes user (Ok steps.Skipped) entries = CheckpointNotes user false (Ok Skipped) entries
+StepNotes user (Ok (steps.NotDue behind)) entries = CheckpointNotes user false (Ok (NotDue behind)) entries
+StepNotes user (Err refusal) entries = CheckpointNotes user false (Err refusal) entries
 
 abbrev pub LeaveNotes : User → List BookEntry → Type 0
 LeaveNotes user entries = (entries ≡ Detached user.pid ∷ []) ⊎ (MayBeOver user × (entries ≡ []))

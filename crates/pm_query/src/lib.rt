@@ -29,4 +29,4 @@ pub use pairs::Pairs;
 pub use pm_record::RedoFault;
 pub use reply::Reply;
 pub use run::{Outcome, answer};
-pub use store::{CHECKPOINT_BYTES, Checkpointed, Seen, Staged, Store, StoreNo};
+pub use store::{CHECKPOINT_BYTES, Checkpointed, Seen, Staged, Stepping, Store, StoreNo};

@@ -1,6 +1,6 @@
 //! What a child asks of the store.
 ghost use Rattle.std.specs.Prelude.{◌≡◌, ◌≤◌, ◌⊎◌, ◌++◌, ◌∷◌, [], ℕ, List, Option, All, IfOk, OnErr};
-ghost use Rattle.pm_query.specs.{declared.{book.BookEntry.{BookEntry, TheVariants.Detached}, store.StoreNo.TheVariants.{Disk, NoMemory}}, Calls.{DiskFact, LearnsFront, LearnsReason, PassView, user_of, newcomer, new_pass, with_front, ReachesNoLess, HasReached, IsPast, MetAnother, MetLater, EnterNotes, RunNotes, SeenNotes, FlushNotes, RedoNotes, CheckpointNotes, LeaveNotes}, Limits.HasShortValues};
+ghost use Rattle.pm_query.specs.{declared.{book.BookEntry.{BookEntry, TheVariants.Detached}, store.StoreNo.TheVariants.{Disk, NoMemory}}, Calls.{DiskFact, LearnsFront, LearnsReason, PassView, user_of, newcomer, new_pass, with_front, ReachesNoLess, HasReached, IsPast, MetAnother, MetLater, EnterNotes, RunNotes, SeenNotes, FlushNotes, RedoNotes, CheckpointNotes, step_of, StepNotes, LeaveNotes}, Limits.HasShortValues};
 
 use crate::book::BookEntry;
 use crate::reply::Reply;
@@ -75,6 +75,32 @@ pub enum Checkpointed {
     Skipped,
     /// Only so many bytes of batches stand after the log's base, and nothing was written.
     NotDue { behind: u64 },
+}
+
+/// What a step of a checkpoint came to.
+#[derive(Clone, Copy, Debug, PartialEq, Eq)]
+pub enum Stepping {
+    /// The checkpoint is under way.
+    More,
+    /// It was made: the log goes on in the other file, in this epoch.
+    Done { epoch: u64 },
+    /// Redo hasn't ended in this generation, and nothing was written.
+    Skipped,
+    /// Only so many bytes of batches stand after the log's base, and nothing was written.
+    NotDue { behind: u64 },
+}
+
+impl Stepping {
+    /// What the one step of a checkpoint is that came to this.
+    pub fn of(came: Checkpointed) -> Stepping
+        ensures { result ≡ step_of came }
+    {
+        match came {
+            Checkpointed::Done { epoch } => Stepping::Done { epoch },
+            Checkpointed::Skipped => Stepping::Skipped,
+            Checkpointed::NotDue { behind } => Stepping::NotDue { behind },
+        }
+    }
 }
 
 /// The store, as one child uses it: it enters, runs scripts, waits until what it saw is flushed, and leaves. A child of
@@ -172,6 +198,27 @@ pub trait Store {
         ensures admits { admits self.new pass.new }
         ensures view { view pass.new ≡ view pass.old }
         ensures stale { MetLater (met self.new) (view pass.old).generation result };
+
+    /// One step of a checkpoint that isn't the last: it begins one where one is due, or goes on with the one that is under
+    /// way. A store whose checkpoint is one call makes it all in one step.
+    fn checkpoint_step(&mut self, pass: &mut Self::Pass) -> Result<Stepping, StoreNo>
+        requires { admits self.old pass.old }
+        ensures notes { (entries : List BookEntry) × notes entries self.old self.new
+            × StepNotes (user_of (stamp self.old) (view pass.old)) result entries }
+        ensures admits { admits self.new pass.new }
+        ensures view { view pass.new ≡ view pass.old }
+        ensures stale { MetLater (met self.new) (view pass.old).generation result }
+    {
+        Ok(Stepping::of(self.checkpoint(pass, false)?))
+    }
+
+    /// Gives up the checkpoint that is under way, if one is. It takes no memory.
+    fn checkpoint_drop(&mut self, pass: &mut Self::Pass)
+        requires { admits self.old pass.old }
+        ensures notes { notes [] self.old self.new }
+        ensures admits { admits self.new pass.new }
+        ensures view { view pass.new ≡ view pass.old }
+    {}
 
     /// Lets a child go, and notes that, unless the store has met a later generation. It takes no memory.
     fn leave(&mut self, pass: Self::Pass)

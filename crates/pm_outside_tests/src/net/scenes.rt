@@ -212,7 +212,11 @@ child pause
 within 0..100
 start
 3 child pause
-within 70..600";
+within 70..600
+# its brief pauses stay brief
+start
+20 child pause briefly
+within 20..600";
 
 // Calls the child of this slot after so many milliseconds.
 fn call_later(rt: &impl Clock, bells: &Bells, slot: u32, ms: u64) {
@@ -345,6 +349,7 @@ where
         "resting child" => world.child = world.clock.another(RESTING)?,
         "child ring" => world.child.ring(),
         "child pause" => world.child.pause(),
+        "child pause briefly" => world.child.pause_briefly(),
         "child called" => {
             world.clock.call(CHILD);
             world.child.pause();
