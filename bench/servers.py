@@ -1,4 +1,4 @@
-"""The servers that bench/serve and bench/beside measure, over 127.0.0.1: ours, and beside it PostgreSQL where that is installed (its own
+"""The servers that bench/serve and bench/beside measure and a client's connection to one, over 127.0.0.1: ours, and beside it PostgreSQL where that is installed (its own
 cluster, by a user that isn't root, with fsync and synchronous_commit on). Both are asked by bench/clients.c."""
 import glob, os, pwd, re, shutil, signal, socket, struct, subprocess, sys, time
 
@@ -30,6 +30,8 @@ class Line:
         self.hear()
 
     def hear(self):
+        """The first column of each row, up to ReadyForQuery."""
+        rows = []
         while True:
             head = self.stream.read(5)
             if len(head) < 5:
@@ -37,14 +39,16 @@ class Line:
             body = self.stream.read(struct.unpack(">I", head[1:])[0] - 4)
             if head[:1] == b"K":
                 self.pid = struct.unpack(">I", body[:4])[0]
+            if head[:1] == b"D":
+                rows.append(int(body[6 : 6 + struct.unpack(">I", body[2:6])[0]]))
             if head[:1] == b"E":
                 raise ConnectionError(body.decode())
             if head[:1] == b"Z":
-                return
+                return rows
 
     def ask(self, text):
         self.socket.sendall(query(text))
-        self.hear()
+        return self.hear()
 
     def close(self):
         try:
