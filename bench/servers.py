@@ -1,5 +1,6 @@
-"""The servers that bench/serve and bench/beside measure and a client's connection to one, over 127.0.0.1: ours, and beside it PostgreSQL where that is installed (its own
-cluster, by a user that isn't root, with fsync and synchronous_commit on). Both are asked by bench/clients.c."""
+"""The servers that bench/serve and bench/beside measure, and a client's connection to one, over 127.0.0.1: ours, and beside it
+PostgreSQL where that is installed (its own cluster, by a user that isn't root, with fsync and synchronous_commit on). Both are asked by
+bench/clients.c."""
 import glob, os, pwd, re, shutil, signal, socket, struct, subprocess, sys, time
 
 found = sorted(glob.glob("/usr/lib/postgresql/*/bin/postgres"))
@@ -138,6 +139,15 @@ class Server:
     def children(self):
         listed = subprocess.run(["ps", "-o", "pid=", "--ppid", str(self.process.pid)], capture_output=True, text=True)
         return [int(pid) for pid in listed.stdout.split()]
+
+    def lose(self):
+        """Kills all of it at once."""
+        processes = self.children() + [self.process.pid]
+        for process in processes:
+            os.kill(process, signal.SIGKILL)
+        self.process.communicate()
+        while any(os.path.exists(f"/proc/{process}") for process in processes):
+            time.sleep(0.01)
 
     def end(self):
         if self.process and self.process.poll() is None:
