@@ -1,6 +1,5 @@
-"""The servers that bench/serve and bench/beside measure, and a client's connection to one, over 127.0.0.1: ours, and beside it
-PostgreSQL where that is installed (its own cluster, by a user that isn't root, with fsync and synchronous_commit on). Both are asked by
-bench/clients.c."""
+"""The servers that bench/serve, bench/beside and bench/checkpoint_stall measure, and a client's connection to one, over 127.0.0.1: ours,
+and beside it PostgreSQL where that is installed (its own cluster, by a user that isn't root, with fsync and synchronous_commit on)."""
 import glob, os, pwd, re, shutil, signal, socket, struct, subprocess, sys, time
 
 found = sorted(glob.glob("/usr/lib/postgresql/*/bin/postgres"))
