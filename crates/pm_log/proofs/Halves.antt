@@ -1,7 +1,7 @@
 -- A file that is being made, over a step, and over an append beside it.
 use Rattle.std.{proofs.{Common.{◌≡◌, ℕ, ◌+◌, ◌-◌, ◌≤◌, ◌<◌, true, false, List, [], ◌∷◌, ◌++◌, length, take, drop, refl, sym, ◌∙◌, ap, subst, arith, length-append, append_assoc}, lemmas.List.{drop-append-le, take-append-drop, take-append-le, drop_at, take_at, length-drop, length-take}, Math.Seq.drop-append-add}, specs.Prelude.{Bool, Option, Some, None, IfSome, option_map}}
 use Rattle.pm_record.{specs.{pm_disk.{declared.disk.Which.Which, Disk.{Only, TellsStill}, Files.{Files, file_of, other, overwritten}}, Calls.{beside_with, file_with}, pm_rows.declared.commit.Change.Change, Spelling.batch_bytes, StandsFor.{Content, with_batch}}, proofs.GateLaws.{other-other, written_at}}
-use Rattle.pm_log.{specs.{Append.{GrowsBehind, IsSpelled}, Half.{Half, half_at, whole_of}, Making.{HasPiece, HasStepped, IsReady, Makes}, declared.making.Stepped.TheVariants.{Ready}}, proofs.{Fronts.AreBatches-push, Lists.{first_byte, over}}}
+use Rattle.pm_log.{specs.{Append.{GrowsBehind, IsSpelled}, Half.{Half, half_at, whole_of}, Making.{HasCopied, HasPiece, HasStepped, IsReady, Makes}, declared.making.Stepped.TheVariants.{More, Ready}}, proofs.{Fronts.AreBatches-push, Lists.{first_byte, over}}}
 
 module _ (half : Half) (file : Which) (end : ℕ) (content : Content) (files : Files) (m : Makes half file end content files) where
   -- what is left, behind what is made
@@ -186,38 +186,48 @@ told_base (Some files) now file next end from done n base piece images is within
     (parts ∙ ap (λ (l : List ℕ). l ++ (drop n (drop done base) ++ m.since)) (sym piece_is)) (omega (arith, long)) (log_stays files file done piece) (other_is files file done piece))
 
 -- a piece was copied
-pub told_copy : (before now : Option Files) (file : Which) (end from done n : ℕ) (base : List ℕ) (images : Files → Type 0)
-    → length base ≤ done → done + n ≤ length base + (end - from) → IfSome before (λ files. from + (done - length base) + n ≤ length (file_of files file))
-    → now ≡ option_map (λ (files : Files). written_at (other file) done (take n (drop (from + (done - length base)) (file_of files file))) files) before
-    → TellsStill (λ files now. HasPiece base from done file end files now images (Some n)) before now
-told_copy None now file end from done n base images past within enough written = written
-told_copy (Some files) now file end from done n base images past within enough written =
+pub told_copy : (before now : Option Files) (file : Which) (end from done n base_end : ℕ) (images : Files → Type 0)
+    → base_end ≤ done → done + n ≤ base_end + (end - from) → IfSome before (λ files. from + (done - base_end) + n ≤ length (file_of files file))
+    → now ≡ option_map (λ (files : Files). written_at (other file) done (take n (drop (from + (done - base_end)) (file_of files file))) files) before
+    → TellsStill (λ files now. HasCopied base_end from done file end files now images (Some n)) before now
+told_copy None now file end from done n base_end images past within enough written = written
+told_copy (Some files) now file end from done n base_end images past within enough written =
     let bytes = file_of files file in
-    let place = from + (done - length base) in
+    let place = from + (done - base_end) in
     let piece = take n (drop place bytes) in
     let long : n ≡ length piece = omega (arith, enough, length-take n (drop place bytes), length-drop place bytes) in
-    subst (λ (m : Option Files). TellsStill (λ files now. HasPiece base from done file end files now images (Some n)) (Some files) m) (sym written)
-    (λ epoch ready content m.
+    subst (λ (m : Option Files). TellsStill (λ files now. HasCopied base_end from done file end files now images (Some n)) (Some files) m) (sym written)
+    (λ base base_long epoch ready content m.
     let half = half_at epoch base from done ready in
-    let same : piece ≡ take n m.left = copy_piece half file end content files m n past within in
+    let same : piece ≡ take n m.left =
+    ap (λ (b : ℕ). take n (drop (from + (done - b)) bytes)) (sym base_long) ∙ copy_piece half file end content files m n (omega (arith, past, base_long)) (omega (arith, within, base_long)) in
     makes_piece half file end content files m (written_at (other file) done piece files) piece (drop n m.left) (done + n)
     (sym (take-append-drop n m.left) ∙ ap (λ (l : List ℕ). l ++ drop n m.left) (sym same)) (omega (arith, long)) (log_stays files file done piece) (other_is files file done piece))
 
 -- all is made durable
-pub told_ready : (before now : Option Files) (file next : Which) (end from done : ℕ) (base : List ℕ) (images : Files → Type 0) → next ≡ other file
-    → length base ≤ done → length base + (end - from) ≤ done → now ≡ option_map (written_at next done (0 ∷ [])) before
+pub told_ready : (before now : Option Files) (file next : Which) (end from done base_end : ℕ) (images : Files → Type 0) → next ≡ other file
+    → base_end ≤ done → base_end + (end - from) ≤ done → now ≡ option_map (written_at next done (0 ∷ [])) before
     → IfSome now (λ f. Only next (file_of f next) images)
-    → TellsStill (λ files now. HasPiece base from done file end files now images None) before now
-told_ready None now file next end from done base images is past whole written durable = written
-told_ready (Some files) now file next end from done base images is past whole written durable =
+    → TellsStill (λ files now. HasCopied base_end from done file end files now images None) before now
+told_ready None now file next end from done base_end images is past whole written durable = written
+told_ready (Some files) now file next end from done base_end images is past whole written durable =
     let there = subst (λ (w : Which). now ≡ Some (written_at w done (0 ∷ []) files)) is written in
     let only = subst (λ (m : Option Files). IfSome m (λ f. Only (other file) (file_of f (other file)) images)) there
     (subst (λ (w : Which). IfSome now (λ f. Only w (file_of f w) images)) is durable) in
-    subst (λ (m : Option Files). TellsStill (λ files now. HasPiece base from done file end files now images None) (Some files) m) (sym there)
-    (λ epoch ready content m.
+    subst (λ (m : Option Files). TellsStill (λ files now. HasCopied base_end from done file end files now images None) (Some files) m) (sym there)
+    (λ base base_long epoch ready content m.
     let half = half_at epoch base from done ready in
-    ready_now half file end content files m (written_at (other file) done (0 ∷ []) files) images (none_left half file end content files m past whole)
+    let nothing = none_left half file end content files m (omega (arith, past, base_long)) (omega (arith, whole, base_long)) in
+    ready_now half file end content files m (written_at (other file) done (0 ∷ []) files) images nothing
     (log_stays files file done (0 ∷ [])) (other_is files file done (0 ∷ [])) only)
+
+-- what is said of every base of that length is said of this one
+pub told_of : (before now : Option Files) (file : Which) (end from done base_end : ℕ) (base : List ℕ) (images : Files → Type 0) (piece : Option ℕ) → length base ≡ base_end
+    → TellsStill (λ files now. HasCopied base_end from done file end files now images piece) before now
+    → TellsStill (λ files now. HasPiece base from done file end files now images piece) before now
+told_of None now file end from done base_end base images piece long has = has
+told_of (Some files) None file end from done base_end base images piece long has = has
+told_of (Some files) (Some now) file end from done base_end base images piece long has = has base long
 
 -- so the step says it of the half that it was given
 pub told_whole : (before now : Option Files) (half : Half) (file : Which) (end epoch from done : ℕ) (base : List ℕ) (ready : Bool) (images : Files → Type 0)
@@ -227,6 +237,19 @@ told_whole None now half file end epoch from done base ready images is has = has
 told_whole (Some files) None half file end epoch from done base ready images is has = has
 told_whole (Some files) (Some now) half file end epoch from done base ready images is has = λ content m.
     has epoch ready content (subst (λ (h : Half). Makes h file end content files) (sym is) m)
+
+-- a sync leaves what the files read
+pub told_more : (before between now : Option Files) (half : Half) (file : Which) (end epoch from done n : ℕ) (base : List ℕ) (ready : Bool) (i k : Files → Type 0)
+    → half_at epoch base from done ready ≡ half → now ≡ between → TellsStill (λ files now. HasPiece base from done file end files now i (Some n)) before between
+    → TellsStill (λ files now. HasStepped half (half_at epoch base from (done + n) false) file end files now k More) before now
+told_more before between now half file end epoch from done n base ready i k is same has =
+    subst (λ (m : Option Files). TellsStill (λ files now. HasStepped half (half_at epoch base from (done + n) false) file end files now k More) before m) (sym same) (of before between has)
+  where
+    of : (before now : Option Files) → TellsStill (λ files now. HasPiece base from done file end files now i (Some n)) before now
+        → TellsStill (λ files now. HasStepped half (half_at epoch base from (done + n) false) file end files now k More) before now
+    of None now has = has
+    of (Some files) None has = has
+    of (Some files) (Some now) has = λ content m. has epoch ready content (subst (λ (h : Half). Makes h file end content files) (sym is) m)
 
 -- a batch was appended beside it
 pub told_beside : (before now : Option Files) (file : Which) (end further : ℕ) (batch : List (List Change)) (bytes : List ℕ) → IsSpelled bytes batch → further ≡ end + (length bytes - 1)

@@ -9,6 +9,7 @@ mod Lists
 mod Looks
 mod Makings
 mod Moves
+mod Spelled
 mod Steps
 mod Told
 mod Wrote

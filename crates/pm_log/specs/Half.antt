@@ -1,9 +1,14 @@
 -- A file that is being made, and how much a step of that writes.
 use Rattle.std.specs.Prelude.{ℕ, ◌+◌, ◌-◌, nat_lt, cond, Bool, List, length, Option, None, Some}
+use Rattle.pm_record.specs.pm_rows.Limits.{max_value_bytes}
 
--- a step writes so many bytes at most
+-- a step writes so many bytes, where they are left
 abbrev pub piece_bytes : ℕ
 piece_bytes = 1048576
+
+-- a row isn't split, so it may be one row more: a key, the length of its value, and the value
+abbrev pub most_in_piece : ℕ
+most_in_piece = piece_bytes + (8 + 4 + max_value_bytes)
 
 -- and its file is made durable after so many of them
 abbrev pub pieces_per_sync : ℕ

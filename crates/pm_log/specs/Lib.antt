@@ -1,4 +1,5 @@
 pub mod Append
+pub mod Base
 pub mod Change
 pub mod Half
 pub mod Init

@@ -1,7 +1,7 @@
 -- What stands in a file that is being made, and what its calls leave.
 use Rattle.std.specs.Prelude.{◌≡◌, ℕ, ◌+◌, ◌-◌, ◌^◌, ◌<◌, ◌≤◌, Bool, true, false, List, ◌∷◌, [], ◌++◌, length, min, Option, None, Some}
 use Rattle.pm_record.specs.{pm_disk.{declared.disk.Which.Which, Files.{Files, file_of, other}, Disk.{Only, Torn}}, pm_rows.{declared.commit.Change.Change, Fold.RowMap}, Spelling.base_bytes, StandsFor.{AreBatches, Content, IsContent, StandsFor, checkpointed, standing_of}}
-use Rattle.pm_log.specs.{Half.{Half, half_at, left_in, left_of, over_of, piece_bytes, whole_of}, Log.Lives, declared.{log.Log.Log, making.Stepped.{Stepped, TheVariants.{More, Ready}}}}
+use Rattle.pm_log.specs.{Half.{Half, half_at, left_of, most_in_piece, over_of, piece_bytes, whole_of}, Log.Lives, declared.{log.Log.Log, making.Stepped.{Stepped, TheVariants.{More, Ready}}}}
 
 -- these batches more
 abbrev pub with_batches : Content → List (List (List Change)) → Content
@@ -66,10 +66,17 @@ pub record IsWhole (log : Log) (half : Half) : Type 0 where
 
 -- ---- a step
 
--- It writes the lesser of so many bytes and what is left of the part that it is at. Where nothing is left, all is made
--- durable, and there alone.
+-- of so many bytes that are left this many make a piece
+pub record IsPieceOf (left count : ℕ) : Type 0 where
+  pub some : 1 ≤ left
+  pub enough : min piece_bytes left ≤ count
+  pub within : count ≤ left
+  pub few : count ≤ most_in_piece
+
+-- It writes a piece of what is left of the part that it is at. Where nothing is left, all is made durable, and there
+-- alone.
 abbrev pub IsStep : Half → Half → ℕ → Stepped → Type 0
-IsStep half new end More = (1 ≤ left_of half end) × (new ≡ record half { done = half.done + min piece_bytes (left_of half end); ready = false })
+IsStep half new end More = (count : ℕ) × IsPieceOf (left_of half end) count × (new ≡ record half { done = half.done + count; ready = false })
 IsStep half new end Ready = (half.done ≡ whole_of half end) × (new ≡ record half { ready = true })
 
 abbrev pub HasStepped : Half → Half → Which → ℕ → Files → Files → (Files → Type 0) → Stepped → Type 0
@@ -85,10 +92,14 @@ HasPiece base from done file end files now images None =
     (epoch : ℕ) (ready : Bool) (content : Content) → Makes (half_at epoch base from done ready) file end content files
     → IsReady (half_at epoch base from done true) file end content now images
 
--- The lesser of so many bytes and what is left of the part that it is at; none where nothing is left.
-abbrev pub IsPiece : (base : List ℕ) (from done end : ℕ) → Option ℕ → Type 0
-IsPiece base from done end (Some count) = (1 ≤ left_in base from done end) × (count ≡ min piece_bytes (left_in base from done end))
-IsPiece base from done end None = done ≡ length base + (end - from)
+-- the same of every base of that length, which is written
+abbrev pub HasCopied : (base_end from done : ℕ) (file : Which) (end : ℕ) (files now : Files) (images : Files → Type 0) → Option ℕ → Type 0
+HasCopied base_end from done file end files now images piece = (base : List ℕ) → length base ≡ base_end → HasPiece base from done file end files now images piece
+
+-- a piece of what is left to copy; none where nothing is left
+abbrev pub IsCopy : (base_end from done end : ℕ) → Option ℕ → Type 0
+IsCopy base_end from done end (Some count) = IsPieceOf (base_end + (end - from) - done) count
+IsCopy base_end from done end None = done ≡ base_end + (end - from)
 
 -- ---- the beginning
 

@@ -7,6 +7,7 @@
 //! is broken and makes no device call. A stop inside `init` may leave a part of a cluster.
 #![tactic(auto)]
 
+mod base;
 mod cluster;
 mod laws;
 mod limits;

@@ -258,7 +258,7 @@ impl Log {
     }
 
     /// Begins to make the other file, as the base of all rows in the next epoch. From here on a batch needs room in that
-    /// file as well. It spells the base, keeps it in memory, and makes no device call.
+    /// file as well. It lists the rows, which share their texts with the list, and makes no device call.
     pub fn begin(&mut self, alloc: Global, rows: &Rows) -> Result<Making, LogFault>
         requires alone { self.old.making ≡ None }
         requires rows { All IsRow (map.entries rows.now) }
@@ -292,9 +292,10 @@ impl Log {
         Ok(making)
     }
 
-    /// Makes one piece more of the other file, of up to 1 MiB: of the base, or else of what was appended since `begin`.
-    /// Where nothing is left it makes all of it durable, and that alone answers `Ready`. At every tick of the call a stop
-    /// leaves the same rows and count. After `Disk` the log is broken.
+    /// Makes one piece more of the other file: of the base, or else of what was appended since `begin`. It has 1 MiB or
+    /// all that is left of that, and may end with the row that goes past it. Where nothing is left it makes all of it
+    /// durable, and that alone answers `Ready`. At every tick of the call a stop leaves the same rows and count. After
+    /// `Disk` the log is broken.
     pub fn step<D: Disk>(&mut self, disk: &mut D, making: &mut Making) -> Result<Stepped, LogFault>
         requires under_way { IsUnderWay self.old making.old }
         requires log { self.old.since ≡ None → IfSome (D.seen disk.old)

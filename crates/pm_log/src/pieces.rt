@@ -1,14 +1,18 @@
 //! How a file is made, piece by piece.
 
-ghost use Rattle.std.specs.Prelude.{◌≡◌, ◌+◌, ◌-◌, ◌%◌, ◌^◌, ◌≤◌, ◌<◌, length, take, drop, IfOk, IfSome, IsErr, OnOk, option_map};
+ghost use Rattle.std.specs.Prelude.{◌≡◌, ◌+◌, ◌-◌, ◌%◌, ◌^◌, ◌≤◌, ◌<◌, length, vec_capacity, take, drop, IfOk, IfSome, IsErr, OnOk, option_map};
 ghost use Rattle.pm_record.specs.{pm_disk.{Cause.IsCounted, Disk.{Only, TellsStill, Torn}, Files.{file_of, other, overwritten, with_file}}, OnDisk.{FollowsWithin, GoesOn}};
-ghost use Rattle.pm_log.specs.{Half.{piece_bytes, pieces_per_sync}, Init.IsUntouched, Making.{HasPiece, IsPiece, TornBehind}};
+ghost use Rattle.pm_log.specs.{Base.{HasSpelled, MaySpell}, Half.{most_in_piece, piece_bytes, pieces_per_sync}, Init.IsUntouched, Making.{HasCopied, IsCopy, TornBehind}};
 
-use crate::making::{Making, PIECE_BYTES, PIECES_PER_SYNC, Stepped};
+use crate::base::{Base, pairs_of, spell};
+use crate::making::{MOST_IN_PIECE, Making, PIECE_BYTES, PIECES_PER_SYNC, Stepped};
 use pm_disk::{Disk, DiskFault, Which};
-use pm_record::{Bytes, CLOSED, put_base, write_durably};
+use pm_record::{CLOSED, write_durably};
 use pm_rows::Rows;
 use std::alloc::{AllocError, Global};
+
+/// Where a base without rows ends, behind its file's gate.
+const EMPTY_BASE_END: u64 = 30;
 
 impl Making {
     ghost use Rattle.std.specs.Prelude.{OnErr, ◌∷◌, All, false};
@@ -34,12 +38,16 @@ impl Making {
           ready = false;
         }) }
     {
-        let mut base = Bytes::new(alloc);
-        put_base(&mut base, epoch, false, count, rows)?;
-        let buffer = vec![in alloc; 0; PIECE_BYTES]?;
-        Ok(Making {
+        let base = Base {
             epoch,
+            count,
+            rows: pairs_of(alloc, rows)?,
+        };
+        let buffer = Vec::with_capacity(alloc, MOST_IN_PIECE)?;
+        Ok(Making {
             base,
+            base_end: EMPTY_BASE_END + rows.size(),
+            next: 0,
             from,
             done: 1,
             ready: false,
@@ -53,20 +61,20 @@ impl Making {
         ensures over { result ≡ over_of self.now }
         ensures number { length self.now.base < 2 ^ 64 }
     {
-        (self.base.as_slice().len() as u64).saturating_sub(self.from)
+        self.base_end.saturating_sub(self.from)
     }
 
     pub(crate) fn epoch(&self) -> u64
         ensures { result ≡ self.now.epoch }
     {
-        self.epoch
+        self.base.epoch
     }
 
     // The place of the first gate after its base.
     pub(crate) fn base_end(&self) -> u64
         ensures { result ≡ length self.now.base }
     {
-        self.base.as_slice().len() as u64
+        self.base_end
     }
 
     /// Up to which place it is written.
@@ -102,17 +110,20 @@ impl Making {
             (D.images disk.new) }
         ensures cause { IsCounted (D.faults disk.old) (D.faults disk.new) (IsErr result) }
     {
-        match next_piece(
-            disk,
-            file,
-            end,
-            self.base.as_slice(),
-            self.from,
-            self.done,
-            &mut self.buffer,
-        )? {
+        let into = file.other();
+        if self.done < self.base_end {
+            let rows = &self.base;
+            let next = write_rows(disk, into, rows, self.next, self.done, &mut self.buffer)?;
+            self.unsynced = sync_each_fourth(disk, into, self.unsynced)?;
+            self.next = next;
+            self.done += self.buffer.len() as u64;
+            self.ready = false;
+            return Ok(Stepped::More);
+        }
+        let (at, from) = (self.done, self.from);
+        match copy_next(disk, file, end, self.base_end, from, at, &mut self.buffer)? {
             Some(count) => {
-                self.unsynced = sync_each_fourth(disk, file.other(), self.unsynced)?;
+                self.unsynced = sync_each_fourth(disk, into, self.unsynced)?;
                 self.done += count;
                 self.ready = false;
                 Ok(Stepped::More)
@@ -126,27 +137,58 @@ impl Making {
     }
 }
 
-// Writes the next piece of the other file, and answers its length; or, where nothing is left, makes all of it durable.
-fn next_piece<D: Disk>(
+// Writes the next piece of a base at a place of a file. It isn't durable yet. Answers the next row that isn't written.
+fn write_rows<D: Disk>(
+    disk: &mut D,
+    file: Which,
+    base: &Base,
+    next: usize,
+    done: u64,
+    buffer: &mut Vec<u8>,
+) -> Result<usize, DiskFault>
+    requires base { MaySpell base.now next }
+    requires room { most_in_piece ≤ vec_capacity buffer.old }
+    requires some { 1 ≤ done }
+    requires place { IfSome (D.seen disk.old) (λ files. done ≤ length (file_of files file)) }
+    ensures spelled { IfOk result (λ at. HasSpelled base.now next at buffer.new.items) }
+    ensures room { most_in_piece ≤ vec_capacity buffer.new }
+    ensures written { OnOk result (D.seen disk.new ≡ option_map (λ files. with_file files file
+        (overwritten (file_of files file) done buffer.new.items)) (D.seen disk.old)) }
+    ensures beside { TellsStill (λ files now. file_of now (other file) ≡ file_of files (other file))
+        (D.seen disk.old) (D.seen disk.new) }
+    ensures stops { FollowsWithin (TornBehind file) (D.ticks disk.old)
+        (D.ticks disk.new) (D.images disk.old) (D.images disk.new) }
+    ensures time { GoesOn (D.ticks disk.old) (D.ticks disk.new) (D.images disk.old)
+        (D.images disk.new) }
+    ensures cause { IsCounted (D.faults disk.old) (D.faults disk.new) (IsErr result) }
+{
+    let at = spell(base, next, buffer);
+    write_piece(disk, file, done, buffer)?;
+    Ok(at)
+}
+
+// Copies the next piece into the other file, and answers its length; or, where nothing is left, makes all of it
+// durable. The base is written, up to its end.
+fn copy_next<D: Disk>(
     disk: &mut D,
     file: Which,
     end: u64,
-    base: &[u8],
+    base_end: u64,
     from: u64,
     done: u64,
     buffer: &mut Vec<u8>,
 ) -> Result<Option<u64>, DiskFault>
     requires from { from ≤ end }
     requires some { 1 ≤ done }
-    requires done { done ≤ length base.now + (end - from) }
-    requires number { length base.now + (end - from) < 2 ^ 64 }
-    requires buffer { length buffer.old.items ≡ piece_bytes }
+    requires base { base_end ≤ done }
+    requires done { done ≤ base_end + (end - from) }
+    requires room { most_in_piece ≤ vec_capacity buffer.old }
     requires log { IfSome (D.seen disk.old) (λ files. end ≤ length (file_of files file)) }
     requires beside { IfSome (D.seen disk.old) (λ files. done ≤ length (file_of files (other file))) }
-    ensures piece { IfOk result (IsPiece base.now from done end) }
-    ensures buffer { length buffer.new.items ≡ piece_bytes }
+    ensures piece { IfOk result (IsCopy base_end from done end) }
+    ensures room { most_in_piece ≤ vec_capacity buffer.new }
     ensures made { IfOk result (λ piece. TellsStill
-        (λ files now. HasPiece base.now from done file end files now
+        (λ files now. HasCopied base_end from done file end files now
         (D.images disk.new (D.ticks disk.new)) piece) (D.seen disk.old) (D.seen disk.new)) }
     ensures stops { FollowsWithin (TornBehind (other file)) (D.ticks disk.old)
         (D.ticks disk.new) (D.images disk.old) (D.images disk.new) }
@@ -156,22 +198,14 @@ fn next_piece<D: Disk>(
         (D.images disk.new) }
     ensures cause { IsCounted (D.faults disk.old) (D.faults disk.new) (IsErr result) }
 {
-    let next = file.other();
-    let long = base.len() as u64;
-    if done < long {
-        let (_, rest) = base.split_at(done as usize);
-        let (piece, _) = rest.split_at(PIECE_BYTES.min(rest.len()));
-        write_piece(disk, next, done, piece)?;
-        return Ok(Some(piece.len() as u64));
-    }
-    let copied = done - long;
+    let copied = done - base_end;
     let left = end - from - copied;
     if left > 0 {
         let count = left.min(PIECE_BYTES as u64);
         copy_into(disk, file, from + copied, done, count, buffer)?;
         return Ok(Some(count));
     }
-    write_durably(disk, next, done, &[CLOSED])?;
+    write_durably(disk, file.other(), done, &[CLOSED])?;
     Ok(None)
 }
 
@@ -203,12 +237,13 @@ fn copy_into<D: Disk>(
     count: u64,
     buffer: &mut Vec<u8>,
 ) -> Result<(), DiskFault>
-    requires room { count ≤ length buffer.old.items }
+    requires few { count ≤ piece_bytes }
+    requires room { most_in_piece ≤ vec_capacity buffer.old }
     requires log { IfSome (D.seen disk.old)
         (λ files. from + count ≤ length (file_of files file)) }
     requires beside { IfSome (D.seen disk.old)
         (λ files. at ≤ length (file_of files (other file))) }
-    ensures size { length buffer.new.items ≡ length buffer.old.items }
+    ensures room { most_in_piece ≤ vec_capacity buffer.new }
     ensures written { OnOk result (D.seen disk.new ≡ option_map (λ files.
         with_file files (other file) (overwritten (file_of files (other file)) at
         (take count (drop from (file_of files file))))) (D.seen disk.old)) }
@@ -220,8 +255,8 @@ fn copy_into<D: Disk>(
         (D.images disk.new) }
     ensures cause { IsCounted (D.faults disk.old) (D.faults disk.new) (IsErr result) }
 {
-    let (piece, _) = buffer.split_at_mut(count as usize);
-    copy_piece(disk, file, from, at, piece)?;
+    buffer.resize(count as usize, 0).unwrap();
+    copy_piece(disk, file, from, at, buffer)?;
     Ok(())
 }
 

@@ -11,7 +11,7 @@ use Rattle.pm_record.proofs.Batches as of
 abbrev Parts : Type 0
 Parts = Base × List Batch
 
-abbrev start : Base → State
+abbrev pub start : Base → State
 start base = (base.count, base.rows, 0)
 
 abbrev most : Base → ℕ
@@ -47,7 +47,7 @@ FileWaits = ThenWaits BaseWaits SmallBase TailWaits
 base_long : (base : Base) (word : List ℕ) → Spelled MayBase base_spell base word → 0 < length word
 base_long base word is = omega (arith, ap length is.1)
 
-small_reads : Reads BaseWaits SmallBase small_base_at
+pub small_reads : Reads BaseWaits SmallBase small_base_at
 small_reads = checked_reads (Spelled MayBase base_spell) base_at (λ base. is_within base.rows) base_reads base_long
 
 file_reads : Reads FileWaits FileIs parts_at
@@ -72,16 +72,16 @@ content_to base batches may within legal =
       follows = record { limits = kept_each (flat batches) base.rows (within_to base.rows within) t.1; number = t.2 };
     }
 
-within_base : (content : Content) → IsContent content → is_within content.base_rows ≡ true
+pub within_base : (content : Content) → IsContent content → is_within content.base_rows ≡ true
 within_base content is = within_from content.base_rows (is.follows.limits 0 (omega arith))
 
-base_may : (content : Content) → IsContent content → MayBase (parts_of content).0
+pub base_may : (content : Content) → IsContent content → MayBase (parts_of content).0
 base_may content is =
     let few = (is.follows.limits 0 (omega arith)).few in
     let number = is.follows.number in
     (is.epoch, omega (arith, number), (is.rows, few))
 
-content_legal : (content : Content) → IsContent content → Legal content.base_count content.base_rows content.batches
+pub content_legal : (content : Content) → IsContent content → Legal content.base_count content.base_rows content.batches
 content_legal content is = legal_from content.batches content.base_count content.base_rows (recursion_from_All _ content.batches is.batches) (each_kept (flat content.batches) content.base_rows is.follows.limits) is.follows.number
 
 -- a file of these parts, up to and with its closed gate
@@ -236,7 +236,7 @@ as_bytes : (bytes : List ℕ) → All (λ b. b < 256) bytes → IsBytes bytes
 as_bytes [] all = tt
 as_bytes (b ∷ bytes) all = (all 0 b (omega arith), as_bytes bytes (λ k d lt. all (suc k) d (omega (arith, lt))))
 
-from_bytes : (bytes : List ℕ) → IsBytes bytes → All (λ b. b < 256) bytes
+pub from_bytes : (bytes : List ℕ) → IsBytes bytes → All (λ b. b < 256) bytes
 from_bytes [] fits k d lt = absurd (omega (arith, lt))
 from_bytes (b ∷ bytes) fits zero d lt = fits.0
 from_bytes (b ∷ bytes) fits (suc k) d lt = from_bytes bytes fits.1 k d (omega (arith, lt))

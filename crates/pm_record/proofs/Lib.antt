@@ -21,4 +21,6 @@ pub mod Texts
 pub mod Words
 pub mod Writing
 pub mod GateLaws
+pub mod ContentLaws
+pub mod SizeLaws
 pub use Rattle.pm_rows.proofs as pm_rows

@@ -36,3 +36,12 @@ clean_byte false = 0
 abbrev pub base_bytes : ℕ → Bool → ℕ → RowMap → List ℕ
 base_bytes epoch clean count rows =
     0x50 ∷ 0x47 ∷ 0x50 ∷ 0x4D ∷ 0x4C ∷ 0x4F ∷ 0x47 ∷ 1 ∷ to_be_bytes w64 epoch ++ clean_byte clean ∷ to_be_bytes w64 count ++ rows_bytes rows
+
+-- the part of that in front of the rows, with their number
+abbrev pub header_bytes : ℕ → Bool → ℕ → ℕ → List ℕ
+header_bytes epoch clean count rows =
+    0x50 ∷ 0x47 ∷ 0x50 ∷ 0x4D ∷ 0x4C ∷ 0x4F ∷ 0x47 ∷ 1 ∷ to_be_bytes w64 epoch ++ clean_byte clean ∷ to_be_bytes w64 count ++ to_be_bytes w32 rows
+
+-- so many bytes
+abbrev pub header_length : ℕ
+header_length = 29

@@ -5,8 +5,8 @@ ghost use Rattle.pm_record.specs.{StandsFor.{Content, StandsFor}, Damage.IsFirst
 
 /// A file stands for one content at most, with its closed gate at one place.
 pub fn a_file_stands_for_one_content()
-    ensures { (bytes : List ℕ) → All (λ b. b < 256) bytes → (one other : Content) (end till : ℕ)
-        → StandsFor bytes one end → StandsFor bytes other till → (one ≡ other) × (end ≡ till) }
+    ensures { (bytes : List ℕ) (one other : Content) (end till : ℕ) → StandsFor bytes one end
+        → StandsFor bytes other till → (one ≡ other) × (end ≡ till) }
 {}
 
 /// A file has one first wrong byte at most, and stands for nothing where it has one.

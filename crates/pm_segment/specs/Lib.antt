@@ -13,6 +13,7 @@ pub use Rattle.pm_store_apart.specs.Lending
 pub use Rattle.pm_store_apart.specs.Moves
 pub use Rattle.pm_store_apart.specs.MovesLaws
 pub use Rattle.pm_store_apart.specs.Passes
+pub use Rattle.pm_store_apart.specs.Pieces
 pub use Rattle.pm_store_apart.specs.ReadsApart
 pub use Rattle.pm_store_apart.specs.Redos
 pub use Rattle.pm_store_apart.specs.Renewal

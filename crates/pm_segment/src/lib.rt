@@ -8,5 +8,5 @@
 mod laws;
 mod segment;
 
-pub use pm_store_apart::{Apart, Batch, Commits, Lending, Live, Pass, Written};
+pub use pm_store_apart::{Apart, Batch, Came, Commits, Lending, Live, Pass, Piece, Written};
 pub use segment::{Segment, Sole};

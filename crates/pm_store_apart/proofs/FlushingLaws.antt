@@ -146,6 +146,15 @@ log_refusal user clean (Full need room) entries notes = absurd notes
 log_refusal user clean (Redo fault) entries notes = absurd notes
 log_refusal user clean (Stale mine its) entries notes = absurd notes
 
+-- or where a flush is
+pub flush_refusal : (user : User) (clean : Bool) (refusal : StoreNo) (entries : List BookEntry) → FlushNotes user (Err refusal) entries → CheckpointNotes user clean (Err refusal) entries
+flush_refusal user clean Disk entries notes = notes
+flush_refusal user clean NoMemory entries notes = notes
+flush_refusal user clean (Broken since) entries notes = notes
+flush_refusal user clean (Full need room) entries notes = absurd notes
+flush_refusal user clean (Redo fault) entries notes = absurd notes
+flush_refusal user clean (Stale mine its) entries notes = notes
+
 pub refusal_cause : (live : Option Live) (clean : Bool) (pid : ℕ) (refusal : StoreNo) (entries : List BookEntry) → IsDue live clean → WriteNotes {T = Unit {0}} pid (Err refusal) entries → CheckpointCause live clean (Err refusal)
 refusal_cause live clean pid Disk entries due notes = due
 refusal_cause live clean pid NoMemory entries due notes = tt

@@ -7,7 +7,9 @@ pub mod Lendings
 pub mod Lengths
 pub mod OpensLaws
 pub mod Passing
+pub mod Making
 pub mod Redos
+pub mod Remaking
 pub mod Resting
 pub mod RunsLaws
 pub mod Staging

@@ -40,7 +40,7 @@ rests_added live new rows rows_now staged commit seen i same unclosed is within 
     each (Some files) h = (added_at live new rows rows_now staged commit files i (standing_of h.content) same unclosed is within (record { has = h; is = refl })).has
 
 -- what is staged may be appended, oldest first
-may_write : (live : Live) (rows : RowMap) (staged : List (List Change)) (k : ℕ) (files : Files) (i : Files → Type 0) (h : HasRows live rows staged files i)
+pub may_write : (live : Live) (rows : RowMap) (staged : List (List Change)) (k : ℕ) (files : Files) (i : Files → Type 0) (h : HasRows live rows staged files i)
     → k ≤ length staged → IsBatch (take k staged) → live.log.count + length staged < 2 ^ 64 → MayAppend (standing_of h.content) (take k staged)
 may_write live rows staged k files i h few batch small =
     let long : length (take k staged) ≡ k = length-take-le k staged few in

@@ -56,14 +56,6 @@ never_both is = subst is_staged is tt
 
 -- ---- nothing is staged
 
-abbrev files_made : Option ℕ → ℕ
-files_made None = 0
-files_made (Some over) = 1
-
-none_made : (making : Option ℕ) → files_made making ≡ 0 → making ≡ None
-none_made None none = refl
-none_made (Some over) none = absurd (omega (arith, none))
-
 pub waits_at : (o : Option Live) (live : Live) (stage : Waiting) → o ≡ Some live → ∥ IsBehind o stage ∥₁ → Waits live stage
 waits_at o live stage read behind =
     let its : ∥ Waits live stage ∥₁ = subst (λ (l : Option Live). ∥ IsBehind l stage ∥₁) read behind in
@@ -72,7 +64,7 @@ waits_at o live stage read behind =
       front = ∥∥₁_elim its (hlevel ℕ_set) (λ w. w.front);
       needs = ∥∥₁_elim its (hlevel ℕ_set) (λ w. w.needs);
       room = λ whole. ∥∥₁_elim its (hlevel le_prop) (λ w. w.room whole);
-      alone = none_made live.log.making (∥∥₁_elim its (hlevel ℕ_set) (λ w. ap files_made w.alone));
+      no_longer = ∥∥₁_elim its (hlevel ℕ_set) (λ w. w.no_longer);
     }
 
 -- so many more were taken than are flushed

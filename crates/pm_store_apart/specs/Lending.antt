@@ -1,7 +1,7 @@
 -- A flush in three parts: the disk is lent with a batch, the batch is written, and what that came to is marked.
 use Rattle.std.specs.Prelude.{◌≡◌, ◌≢◌, ℕ, ◌+◌, ◌^◌, ◌<◌, ◌≤◌, true, false, List, [], ◌++◌, length, take, Option, None, Some, IfSome, Result, Ok, Err}
 use Rattle.pm_disk.specs.declared.disk.Disk as Disk
-use Rattle.pm_log.specs.{Append.MeansOneOf, Log.{Lives, room_of}, declared.log.Log.Log}
+use Rattle.pm_log.specs.{Append.MeansOneOf, Half.Half, Log.{Lives, room_of}, Making.{IsUnderWay, Makes}, declared.log.Log.Log}
 use Rattle.pm_query.specs.{pm_disk.{Cause.Rose, Disk.TellsStill, Files.{Files, file_of}}, pm_rows.{declared.commit.Change.Change, Batch.IsBatch, Limits.max_commits, Standing.after}, pm_record.{OnDisk.{GoesOn, Throughout}, StandsFor.{Content, MayAppend, standing_of, with_batch}}, Calls.{FlushNotes, User}, declared.{book.BookEntry.BookEntry, store.StoreNo.StoreNo}}
 use Rattle.pm_query.specs.declared.store.StoreNo.TheVariants as refusal
 use Rattle.pm_query.specs.pm_rows.LogSize as log
@@ -70,12 +70,18 @@ abbrev pub LivesAt : (its new : Log) → List (List Change) → (before now : Fi
 LivesAt its new batch before now files files_now =
     (content : Content) → Lives its content files before → MayAppend (standing_of content) batch → Lives new (with_batch content batch) files_now now
 
+-- and what is made of the other file
+abbrev pub MakesWith : (its new : Log) → List (List Change) → (files files_now : Files) → Type 0
+MakesWith its new batch files files_now = (content : Content) (half : Half) → Makes half its.file its.end content files → Makes half new.file new.end (with_batch content batch) files_now
+
 module _ {D : Type 0} (g : Disk.Ghosts D) where
-  -- The batch is durable.
+  -- The batch is durable. A file that is being made beside the log is made of it too.
   pub record IsDurable (taken now : D) (batch : Batch) (new : Log) (tick : ℕ) : Type 0 where
     pub grown : new ≡ log_with batch
     pub tick_is : tick ≡ g.ticks now
     pub lives : TellsStill (LivesAt batch.log new batch.commits.items (g.images taken (g.ticks taken)) (g.images now (g.ticks now))) (g.seen taken) (g.seen now)
+    pub under_way : (half : Half) → IsUnderWay batch.log half → IsUnderWay new half
+    pub makes : TellsStill (MakesWith batch.log new batch.commits.items) (g.seen taken) (g.seen now)
 
   -- The disk has failed at it.
   pub record HasFailed (taken now : D) (batch : Batch) (new : Log) : Type 0 where
@@ -100,8 +106,10 @@ module _ {D : Type 0} (g : Disk.Ghosts D) where
 
 -- ---- what it came to is marked
 
--- The batch is flushed, and what was staged after it waits still.
-pub record HasMarked {D B : Type 0} {g h : _} (batch : Batch) (before now : Apart D B g h) (flushed : ℕ) : Type 0 where
+-- The batch was made durable and is flushed, and what was staged after it waits still.
+pub record HasMarked {D B : Type 0} {g h : _} (batch : Batch) (came : Written) (before now : Apart D B g h) (flushed : ℕ) : Type 0 where
+  pub tick : ℕ
+  pub durable : came ≡ written.Durable (log_with batch) tick
   pub new : Live
   pub read : now.live ≡ Some new
   pub log : new.log ≡ log_with batch
@@ -111,7 +119,7 @@ pub record HasMarked {D B : Type 0} {g h : _} (batch : Batch) (before now : Apar
 
 -- One that wasn't written changes nothing.
 abbrev pub Marks : {D B : Type 0} {g h : _} → Batch → Written → (before now : Apart D B g h) → Result ℕ StoreNo → Type 0
-Marks batch came before now (Ok flushed) = HasMarked batch before now flushed
+Marks batch came before now (Ok flushed) = HasMarked batch came before now flushed
 Marks batch came before now (Err refusal.Disk) = (new : Log) × (came ≡ written.Failed new)
 Marks batch came before now (Err refusal.NoMemory) = KeepsLog before now × (came ≡ written.NoMemory)
 Marks batch came before now (Err _) = ⊥

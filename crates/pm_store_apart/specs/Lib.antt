@@ -12,6 +12,7 @@ pub mod Moment
 pub mod Moves
 pub mod MovesLaws
 pub mod Passes
+pub mod Pieces
 pub mod ReadsApart
 pub mod Redos
 pub mod Renewal
@@ -26,3 +27,4 @@ pub use Rattle.pm_outside.specs as pm_outside
 pub use Rattle.pm_record.specs as pm_record
 pub use Rattle.pm_query.specs as pm_query
 pub use Rattle.pm_redo.specs as pm_redo
+pub use Rattle.pm_log.specs as pm_log

@@ -21,9 +21,10 @@ use std::alloc::{AllocError, Global};
 const ALONE: u64 = 9;
 
 impl<D: Disk, B: Chronicle<BookEntry>> Apart<D, B> {
-    ghost use Rattle.std.specs.Prelude.{◌≡◌, List};
+    ghost use Rattle.std.specs.Prelude.{◌≡◌, List, Option};
     ghost use Rattle.pm_query.specs.{declared.book.BookEntry.BookEntry, Calls.FlushNotes};
-    ghost use Rattle.pm_store_apart.specs.{Apart.MovesOn, Lending.{IsHome, IsUnder, LendsOrAnswers, Marks, Wrote}, Moment.alone, Passes.{Admits, user_in}, Rests.IsAtRest};
+    ghost use Rattle.pm_log.specs.Half.{Half};
+    ghost use Rattle.pm_store_apart.specs.{Apart.MovesOn, Lending.{IsHome, IsUnder, LendsOrAnswers, Marks, Wrote}, Moment.alone, Passes.{Admits, user_in}, Pieces.IsMaking, Rests.IsAtRest};
 
     /// Lends the disk with a copy of the oldest batch, or answers a flush that needs none: the log isn't read, it is broken,
     /// nothing is staged, or memory is short.
@@ -76,6 +77,9 @@ impl<D: Disk, B: Chronicle<BookEntry>> Apart<D, B> {
             × FlushNotes (user_in (alone self.old) pass.now) result entries }
         ensures rests { (taken : D) → IsAtRest taken self.old
             → Wrote D.Disk taken disk.now batch written → IsAtRest disk.now self.new }
+        ensures made { (taken : D) (half : Option Half) → IsAtRest taken self.old
+            → Wrote D.Disk taken disk.now batch written → IsMaking taken self.old half
+            → IsMaking disk.now self.new half }
         ensures admits { Admits pass.now (alone self.new) }
         ensures home { IsHome self.new }
         ensures marks { Marks batch written self.old self.new result }

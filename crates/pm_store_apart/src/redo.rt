@@ -195,6 +195,8 @@ impl<D: Disk, B: Chronicle<BookEntry>> Apart<D, B> {
         rows_are_within_needs();
         self.rows.are_typed();
         let mut moved = live;
+        // A file that is being made beside it is given up.
+        moved.log.making = None;
         match moved.log.checkpoint(self.alloc, disk, &self.rows, clean) {
             Ok(epoch) => {
                 moved.closed |= clean;

@@ -1,8 +1,8 @@
 -- A flush in two turns of the store.
 use Rattle.std.{proofs.Common.{◌≡◌, ℕ, List, [], ◌++◌, Option, None, Some, refl, subst}, specs.Prelude.{Result, Ok, Err, IfOk}}
 use Rattle.pm_query.specs.{declared.{book.BookEntry.BookEntry, store.StoreNo.{StoreNo, TheVariants.{Stale, Disk, Broken, Full, Redo, NoMemory}}}, Calls.MetLater}
-use Rattle.pm_segment.specs.{pm_store_apart.declared.{apart.Apart.Apart, batch.{Batch.Batch, Written.Written}, live.Live.Live, pass.Pass.Pass}, Flushes.FlushCause, Fronts.flushed_of, Lending.{IsUnder, Marks}, Moment.Moment, Rests.IsAtRest}
-use Rattle.pm_store_shared.{specs.{declared.{place.Place.Place, views.{Lent.Lent, Noted.Noted}}, Grows.Grew, GrowsLaws.grew_on, Rule.taken, Stands.{Knows, Stands, StandsOver}, Told.{Seated, Tells, TokenModel, between}}, proofs.Learns.HasTold}
+use Rattle.pm_segment.specs.{pm_store_apart.declared.{apart.Apart.Apart, batch.{Batch.Batch, Written.Written}, live.Live.Live, pass.Pass.Pass}, Flushes.FlushCause, Fronts.flushed_of, Lending.{IsUnder, Marks}, Moment.Moment, Pieces.IsMaking, Rests.IsAtRest}
+use Rattle.pm_store_shared.{specs.{declared.{place.Place.Place, views.{Lent.Lent, Noted.Noted}}, Grows.Grew, GrowsLaws.grew_on, Rule.taken, Stands.{Knows, MakesOver, Stands, StandsOver}, Told.{Seated, Tells, TokenModel, between}}, proofs.Learns.HasTold}
 
 -- ---- what a flush told
 
@@ -42,18 +42,25 @@ pub record IsLent {D B : Type 0} {g h : _} (lent : Lent D) (x : Place D B g h) :
   pub under : IsUnder lent.batch x.apart
   pub rests : IsAtRest lent.disk x.apart
   pub generation : x.apart.generation ≡ lent.generation
+  pub making : IsMaking lent.disk x.apart x.making
 
-lent_of : {D B : Type 0} {g h : _} (first : D) (log : List BookEntry) (lent : Lent D) (x : Place D B g h) (disk : Option D) → x.disk ≡ disk → StandsOver first log x.apart disk (Some lent) → IsLent lent x
-lent_of first log lent x None there is = record { disk = there; under = is.2; rests = is.1; generation = is.3 }
-lent_of first log lent x (Some disk) there is = absurd is
+lent_of : {D B : Type 0} {g h : _} (first : D) (log : List BookEntry) (lent : Lent D) (x : Place D B g h) (disk : Option D) → x.disk ≡ disk → StandsOver first log x.apart disk (Some lent) → MakesOver x.apart disk (Some lent) x.making
+    → IsLent lent x
+lent_of first log lent x None there is makes = record { disk = there; under = is.2; rests = is.1; generation = is.3; making = makes }
+lent_of first log lent x (Some disk) there is makes = absurd is
 
 pub lent_there : {D B : Type 0} {g h : _} {past : List BookEntry} (k : ℕ) (first : D) (own : List Noted) (ps : List Pass) (log : List BookEntry) (lent : Lent D) (x : Place D B g h) (me : Seated (Place D B g h) D (Lent D))
     → me ≡ between k first own ps past (Some lent) → Tells Stands Knows me.0 (taken log x) → IsLent lent x
 lent_there {D} {B} {g} {h} k first own ps log lent x me is tells =
     let stands = (subst (λ (m : Seated (Place D B g h) D (Lent D)). Tells Stands Knows m.0 (taken log x)) is tells).0.0 in
-    lent_of first log lent x x.disk refl (subst (λ o. Stands first log x o) stands.knows stands.is)
+    let is = subst (λ o. Stands first log x o) stands.knows stands.is in
+    lent_of first log lent x x.disk refl is.0 is.1
 
 -- ---- what a token shows after both turns, of which the first notes nothing
 
 pub grew_then : {F : Type 0} (first second : List BookEntry) (a b c : TokenModel F) → Grew first a b → first ≡ [] → Grew second b c → Grew second a c
 grew_then first second a b c one none two = subst (λ (es : List BookEntry). Grew (es ++ second) a c) none (grew_on first second a b c one two)
+
+-- after a turn that notes nothing
+pub grew_none_of : {F : Type 0} (es : List BookEntry) (a b : TokenModel F) → Grew es a b → es ≡ [] → Grew [] a b
+grew_none_of es a b one none = subst (λ (es : List BookEntry). Grew es a b) none one

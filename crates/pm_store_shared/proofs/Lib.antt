@@ -15,3 +15,4 @@ pub mod Steps
 pub mod Stores
 pub mod Unchanged
 pub mod JoinedLaws
+pub mod Makings

@@ -126,9 +126,9 @@ module _ {D B : Type 0} {g h : _} (n : ℕ) (first : D) (gen : ℕ) (own : List 
   did_commits (Ok done) did = did.0.2.commits
   did_commits (Err short) did = did.1.commits
 
-  desk_may : (r : Result (Unit {0}) AllocError) → IsLaid x p → IsLaid x' p' → Behind first log x → Did r → disk_of x' ≡ disk_of x
+  desk_may : (r : Result (Unit {0}) AllocError) → IsLaid x p → IsLaid x' p' → p'.making ≡ None → Behind first log x → Did r → disk_of x' ≡ disk_of x
       → DeskMay Stands Knows (RenewNotes log generation gone r) (desk_holding n first gen own joined (taken log p)) p'
-  desk_may (Ok done) was now is did disk =
+  desk_may (Ok done) was now bare is did disk =
       let others : List ℕ = did.0.0 in let es : List BookEntry = renewal (gone ++ others) generation in
       let next = generation_behind log (gone ++ others) generation in record {
         was = taken log p;
@@ -138,12 +138,12 @@ module _ {D B : Type 0} {g h : _} (n : ℕ) (first : D) (gen : ℕ) (own : List 
         none_own = none_gone (gone ++ others) generation;
         step = record {
           resets = resets_behind log es next (nobody_behind log (moment x).inside gone others generation did.0.1 is.attended);
-          stands = λ f lent there. laid_on f log es x x' p p' was now (behind_renewed f log x x' gone others generation did.0.1 did.0.2 disk) lent there;
+          stands = λ f lent there. laid_on f log es x x' p p' was now bare (behind_renewed f log x x' gone others generation did.0.1 did.0.2 disk) lent there;
           passes = λ ps up known. subst (λ z. Rattle.pm_store_shared.specs.Passes.AllKnown (Knows (log ++ es) p') z ps) (sym next) (known_later (Knows (log ++ es) p') (generation_of log) ps up);
         };
       }
-  desk_may (Err short) was now is did disk =
-      let moves = whole [] x x' p p' tt was now (moves_still x x' did.1 disk) in record {
+  desk_may (Err short) was now bare is did disk =
+      let moves = whole [] x x' p p' tt was now bare (moves_still x x' did.1 disk) in record {
         was = taken log p;
         added = [];
         held = refl;
@@ -158,13 +158,13 @@ module _ {D B : Type 0} {g h : _} (n : ℕ) (first : D) (gen : ℕ) (own : List 
       }
 
   pub renew_may : (r : Result (Unit {0}) AllocError) (me me' : Seated (Place D B g h) D (Lent D)) (c : List (ℕ × Option (Place D B g h))) → me ≡ desk_resting n first gen own joined → me' ≡ (with_held me.0 (Some (taken log p)), c)
-      → Tells Stands Knows me.0 (taken log p) → IsLaid x p → IsLaid x' p' → Did r → disk_of x' ≡ disk_of x → MayGive Stands Knows (RenewNotes (log_held me'.0) generation gone r) [] None me'.0 p'
-  renew_may r me me' c is was tells laid now did disk =
+      → Tells Stands Knows me.0 (taken log p) → IsLaid x p → IsLaid x' p' → p'.making ≡ None → Did r → disk_of x' ≡ disk_of x → MayGive Stands Knows (RenewNotes (log_held me'.0) generation gone r) [] None me'.0 p'
+  renew_may r me me' c is was tells laid now bare did disk =
       let held : me'.0 ≡ Master (desk_holding n first gen own joined (taken log p)) =
       ap (λ (m : Seated (Place D B g h) D (Lent D)). m.0) was ∙ ap (λ (m : Seated (Place D B g h) D (Lent D)). with_held m.0 (Some (taken log p))) is in
       let stands = (subst (λ (m : Seated (Place D B g h) D (Lent D)). Tells Stands Knows m.0 (taken log p)) is tells).3 in
       subst (λ (v : View (Place D B g h) D (Lent D)). MayGive Stands Knows (RenewNotes (log_held v) generation gone r) [] None v p') (sym held)
-      (desk_may r laid now (laid_behind first log x p stands.lent laid stands.is).1 did disk)
+      (desk_may r laid now bare (laid_behind first log x p stands.lent laid stands.is).1 did disk)
 
 pub renew_did : {S F L : Type 0} (n : ℕ) (first : F) (gen : ℕ) (own : List Noted) (joined : List Joined) (log es : List BookEntry) (x : S) (gone : List ℕ) (generation : ℕ) (r : Result (Unit {0}) AllocError)
     (id id' : TableId) (me me' me'' : Seated S F L) (c c' : List (ℕ × Option S)) (old : SharedModel F) → me ≡ desk_resting n first gen own joined → me' ≡ (with_held me.0 (Some (taken log x)), c) → me'' ≡ (given_back me'.0 es [] None, c')

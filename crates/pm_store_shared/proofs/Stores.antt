@@ -130,7 +130,7 @@ over_some first log apart (Some disk) (Some lent) is = absurd is
 over_some first log apart None None is = absurd is
 
 pub stands_over : {D B : Type 0} {g h : _} {had : Option (Lent D)} (first : D) (log : List BookEntry) (x : Place D B g h) → StandsWith Stands Knows had first (taken log x) → Over first log x.apart
-stands_over first log x stands = over_some first log x.apart x.disk stands.lent stands.is
+stands_over first log x stands = over_some first log x.apart x.disk stands.lent stands.is.0
 
 -- in the generation of the entries
 pub stands_in : {D B : Type 0} {g h : _} {had : Option (Lent D)} (first : D) (log : List BookEntry) (x : Place D B g h) → StandsWith Stands Knows had first (taken log x) → generation_of log ≡ x.apart.generation

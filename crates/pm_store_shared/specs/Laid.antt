@@ -1,6 +1,6 @@
 -- A store in the slot.
 use Rattle.std.specs.Prelude.{◌≡◌, Some}
-use Rattle.pm_segment.specs.{pm_store_apart.declared.commits.Commits.TheVariants.Staged, declared.segment.Segment.Segment, Lending.IsHome, Moment.{apart_of, disk_of, moment}, Rests.IsAtRest}
+use Rattle.pm_segment.specs.{pm_store_apart.declared.commits.Commits.TheVariants.Staged, declared.segment.Segment.Segment, Lending.IsHome, Moment.{apart_of, disk_of, moment}, Pieces.IsMaking, Rests.IsAtRest}
 use Rattle.pm_store_shared.specs.declared.place.Place.{Place}
 
 -- it lies there with its disk
@@ -17,3 +17,4 @@ pub record HasDisk {D B : Type 0} {g h : _} (place : Place D B g h) : Type 0 whe
   pub disk : place.disk ≡ Some its
   pub home : IsHome place.apart
   pub rests : IsAtRest its place.apart
+  pub making : IsMaking its place.apart place.making

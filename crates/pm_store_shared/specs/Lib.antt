@@ -7,6 +7,7 @@ pub mod Learned
 pub mod LearnedLaws
 pub mod Log
 pub mod Passes
+pub mod Piecewise
 pub mod Places
 pub mod Quiet
 pub mod Renewed

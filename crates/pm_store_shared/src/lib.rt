@@ -12,6 +12,7 @@ mod deed;
 mod holding;
 mod inner;
 mod marking;
+mod pieces;
 mod place;
 mod plays;
 mod shared;

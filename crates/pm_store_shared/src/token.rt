@@ -169,13 +169,18 @@ impl<D: Disk + Drop, B: Chronicle<BookEntry> + Drop> Token<D, B> {
             result }
     {
         let place = take_whole_for(rt, &self.inner, &mut self.seat, self.number, pass)?;
-        let Place { mut apart, disk } = place;
+        let Place {
+            mut apart,
+            disk,
+            making,
+        } = place;
         let Some(disk) = disk else { unreachable!() };
         match apart.lend(pass) {
             Lending::Answered(result) => {
                 let place = Place {
                     apart,
                     disk: Some(disk),
+                    making,
                 };
                 give::<Brand, D, B, (), Result<u64, StoreNo>>(
                     &self.inner,
@@ -190,7 +195,11 @@ impl<D: Disk + Drop, B: Chronicle<BookEntry> + Drop> Token<D, B> {
                 result
             }
             Lending::Lent(batch) => {
-                let place = Place { apart, disk: None };
+                let place = Place {
+                    apart,
+                    disk: None,
+                    making,
+                };
                 give::<Brand, D, B, D, Batch>(
                     &self.inner,
                     &mut self.seat,

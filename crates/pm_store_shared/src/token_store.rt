@@ -6,7 +6,7 @@ ghost use Rattle.pm_store_shared.specs.{Grows.Grew, GrowsLaws.{generation_rises,
 use crate::token::Token;
 use pm_disk::Disk;
 use pm_outside::{Chronicle, Clock};
-use pm_query::{BookEntry, Checkpointed, Seen, Staged, Store, StoreNo};
+use pm_query::{BookEntry, Checkpointed, Seen, Staged, Stepping, Store, StoreNo};
 use pm_segment::Pass;
 use pm_sql::Script;
 use pm_store_turns::Caller;
@@ -67,6 +67,14 @@ impl<R: Wait + Drop, C: Clock + Drop, D: Disk + Drop, B: Chronicle<BookEntry> + 
 
     fn checkpoint(&mut self, pass: &mut Pass, clean: bool) -> Result<Checkpointed, StoreNo> {
         self.token.checkpoint(&self.rt, pass, clean)
+    }
+
+    fn checkpoint_step(&mut self, pass: &mut Pass) -> Result<Stepping, StoreNo> {
+        self.token.checkpoint_step(&self.rt, pass)
+    }
+
+    fn checkpoint_drop(&mut self, pass: &mut Pass) {
+        self.token.checkpoint_drop(&self.rt, pass)
     }
 
     fn leave(&mut self, pass: Pass) {

@@ -11,12 +11,13 @@ use std::alloc::Global;
 use std::process::Abort;
 use std::test::Fail;
 
-/// What stands in file A, a word for each step, which may be a row that is appended after it, and which call of the disk
+/// What stands in file A, and rows that are appended to it, a commit each, if any are; a word for each step, which may be a row that is appended after it, and which call of the disk
 /// fails, if one does. Then what these steps come to, and one more, after which the log is switched where all is ready,
 /// and the making given up where it isn't; how the log goes on, how many calls there were, and what stops in them leave,
 /// from call to call. And what stands in file B, where that is said.
 const MAKINGS: &str = r"
 ROW | 8=eight - | 0 -> made to 47, made to 76, epoch 2; B end 76 behind 29 base 47 count 2; 13 calls; 1: 7=seven2: 7=seven 8=eight1: 7=seven2: 7=seven 8=eight | BASE 17=\0 ..47 \x01\0\0\0\x18\0\0\0\x01\0\x01\x01\0\0\0\0\0\0\0\x08\0\0\0\x05eight\0
+ROW 30=\0 ; 1=a 2=b 3=c | 4=d - | 0 -> made to 69, made to 94, epoch 2; B end 94 behind 25 base 69 count 4; 13 calls; 3: 1=a 2=b 3=c4: 1=a 2=b 3=c 4=d3: 1=a 2=b 3=c4: 1=a 2=b 3=c 4=d | BASE 17=\0\0\0\0\0\0\0\0\x03\0\0\0\x03 ..30 \0\0\0\0\0\0\0\x01\0\0\0\x01a\0\0\0\0\0\0\0\x02\0\0\0\x01b\0\0\0\0\0\0\0\x03\0\0\0\x01c\x01\0\0\0\x14\0\0\0\x01\0\x01\x01\0\0\0\0\0\0\0\x04\0\0\0\x01d\0
 ROW | - 8=eight - | 0 -> made to 47, ready, made to 76, epoch 2; B end 76 behind 29 base 47 count 2; 15 calls; 1: 7=seven2: 7=seven 8=eight1: 7=seven2: 7=seven 8=eight
 MANY | - | 0 -> made to 60, epoch 4; B end 60 behind 0 base 60 count 8; 7 calls; 8: -5= 1=€uro
 ROW | 8=eight | 0 -> made to 47, made to 76; A end 88 behind 58 base 30 count 2; 7 calls; 1: 7=seven2: 7=seven 8=eight1: 7=seven2: 7=seven 8=eight
@@ -117,9 +118,13 @@ fn made(
 // Does what is asked, and tells what it came to; the disk too.
 fn done(rt: &impl Abort, alloc: Global, asked: &str) -> Result<(String, Failing), Fail> {
     let (a, rest) = asked.split_once(" | ").ok_or("file A")?;
+    let (a, rows) = a.split_once(" ; ").unwrap_or((a, ""));
     let (words, fails) = rest.split_once(" | ").ok_or("words")?;
     let mut disk = FailingDisk::blip(disk_of(alloc, &file_of(alloc, a)?, b"\0")?, 0);
     let mut log = log_of(alloc, &mut disk)?;
+    for word in rows.split_whitespace() {
+        append(rt, alloc, &mut disk, &mut log, &[row_of(alloc, word)?])?;
+    }
     let mut disk = FailingDisk::blip(disk.into_inner(), number(fails)? as u64);
     let first = disk.ticks();
     assert!(rt; log.making.is_none());

@@ -4,4 +4,5 @@ mod batch;
 mod beside;
 mod crowd;
 mod left;
+mod pieces;
 mod world;

@@ -1,15 +1,13 @@
-use Rattle.std.{proofs.Common.{◌≡◌, ◌++◌, ◌∷◌, [], suc, arith, rules, List, ℕ, ap, subst, sym, ◌∙◌, append_assoc}, specs.{Prelude.{All, ℤ}, List.flat_map, Int.{w32, w64, to_be_bytes, cast_signed, cast_unsigned, RustNames.FitsSigned}}}
+use Rattle.std.{proofs.Common.{◌≡◌, ◌++◌, ◌∷◌, [], suc, arith, rules, List, ℕ, ap, subst, sym, ◌∙◌}, specs.{Prelude.{All, ℤ}, List.flat_map, Int.{w64, cast_signed, cast_unsigned, RustNames.FitsSigned}}}
 use Rattle.std.specs.FinMap as map
-use Rattle.pm_record.{specs.{Spelling.{row_bytes, rows_bytes}, StandsFor.IsRow}, proofs.Writing.row_written}
+use Rattle.pm_record.{specs.{Spelling.row_bytes, StandsFor.IsRow}, proofs.Writing.row_written}
 use Rattle.pm_record.proofs.put.put_rows.Goals as goal
 
 pub loop-key-init : goal.loop-key-init
 loop-key-init c =
     let it : c.into_iter-key-iterator.result ≡ map.entries c.args.rows.now = cc in record {
-      bytes = ap (λ (l : List ℕ). l ++ flat_map row_bytes c.into_iter-key-iterator.result) (c.in_ok-extend.ensures.ok ∙ ap (λ (l : List ℕ). c.args.out.now ++ l) (c.to_be_bytes.ensures ∙ ap (λ (n : ℕ). to_be_bytes w32 n) c.len.ensures))
-          ∙ append_assoc c.args.out.now (to_be_bytes w32 (map.len c.args.rows.now)) (flat_map row_bytes c.into_iter-key-iterator.result)
-          ∙ ap (λ (l : List (ℤ × List ℕ)). c.args.out.now ++ (to_be_bytes w32 (map.len c.args.rows.now) ++ flat_map row_bytes l)) it;
-      rows = subst (All IsRow) (sym it) c.requires.rows;
+      bytes = ap (λ (l : List (ℤ × List ℕ)). c.args.out.now ++ flat_map row_bytes l) it;
+      rows = subst (All IsRow) (sym it) c.requires;
     }
 
 pub loop-key-preserved : goal.loop-key-preserved
@@ -20,7 +18,7 @@ loop-key-preserved c =
     let rows : All IsRow (row ∷ rest) = subst (All IsRow) steps c.loop-key.invariant.rows in
     let fits : FitsSigned w64 c.in-Some.key = (rows 0 row (omega arith)).0 in
     let same : cast_signed w64 (cast_unsigned w64 c.in-Some.key) ≡ c.in-Some.key = search (rules, fits) in record {
-      bytes = row_written c.args.out.now [] (flat_map row_bytes rest) c.loop-key.out c.put_row.new.out (row_bytes row) (rows_bytes c.args.rows.now)
-          (ap (λ (l : List (ℤ × List ℕ)). c.loop-key.out ++ flat_map row_bytes l) (sym steps) ∙ c.loop-key.invariant.bytes) (c.in_ok-put_row.ensures ∙ ap (λ (k : ℤ). c.loop-key.out ++ row_bytes (k, c.in-Some.value.now)) same);
+      bytes = row_written c.args.out.now [] (flat_map row_bytes rest) c.loop-key.out c.add_row.new.self (row_bytes row) (flat_map row_bytes (map.entries c.args.rows.now))
+          (ap (λ (l : List (ℤ × List ℕ)). c.loop-key.out ++ flat_map row_bytes l) (sym steps) ∙ c.loop-key.invariant.bytes) (c.in_ok-add_row.ensures ∙ ap (λ (k : ℤ). c.loop-key.out ++ row_bytes (k, c.in-Some.value.now)) same);
       rows = λ k d lt. rows (suc k) d (omega arith);
     }

@@ -22,12 +22,12 @@ give-requires-clause-may g c =
     let lent = lent_there _ _ _ _ t.0 _ c.take-apart.result _ c.requires.seat.1 t.2 in
     let notes = c.mark-result.ensures.notes c.args.disk lent.rests c.write-written.ensures in
     let quiet = flush_quiet (view_of c.args.pass.now) (Some c.take-apart.result.apart.generation) c.mark-result.result notes.0 notes.2 in
-    let marked : Marked (record { disk = c.args.disk; batch = c.args.batch; generation = c.args.pass.now.generation }) c.write-written.new.disk notes.0 c.take-apart.result.apart c.mark-result.new.self =
-    record { moves = notes.1 Staged; rests = c.mark-result.ensures.rests c.args.disk lent.rests c.write-written.ensures; home = c.mark-result.ensures.home } in
-    let moves = marks notes.0 c.take-apart.result.apart c.mark-result.new.self _ c.take-apart.result.disk c.write-written.new.disk (quiet_own notes.0 quiet) marked in
-    token_may_quiet _ _ _ _ _ t.0 c.take-apart.result (with_disk c.mark-result.new.self c.write-written.new.disk) c.args.pass.now c.args.pass.now notes.0 _ _ _ c.requires.seat.1 t.1 t.2
+    let marked : Marked (record { disk = c.args.disk; batch = c.args.batch; generation = c.args.pass.now.generation }) c.write-written.new.disk notes.0 c.take-apart.result.apart c.mark-result.new.self c.take-apart.result.making =
+    record { moves = notes.1 Staged; rests = c.mark-result.ensures.rests c.args.disk lent.rests c.write-written.ensures; made = c.mark-result.ensures.made c.args.disk c.take-apart.result.making lent.rests c.write-written.ensures lent.making; home = c.mark-result.ensures.home } in
+    let moves = marks notes.0 c.take-apart.result c.mark-result.new.self c.take-apart.result.making _ c.write-written.new.disk (quiet_own notes.0 quiet) marked in
+    token_may_quiet _ _ _ _ _ t.0 c.take-apart.result (with_disk c.mark-result.new.self c.write-written.new.disk c.take-apart.result.making) c.args.pass.now c.args.pass.now notes.0 _ _ _ c.requires.seat.1 t.1 t.2
     (flush_free (view_of c.args.pass.now) (Some c.take-apart.result.apart.generation) c.mark-result.result notes.0 notes.2) quiet moves c.requires.admits (sym lent.generation) refl refl
-    (token_knows_same _ _ _ _ t.0 notes.0 c.take-apart.result (with_disk c.mark-result.new.self c.write-written.new.disk) _ c.args.pass.now c.args.pass.now c.requires.seat.1 t.2 c.requires.admits (sym lent.generation) quiet refl c.mark-result.ensures.admits)
+    (token_knows_same _ _ _ _ t.0 notes.0 c.take-apart.result (with_disk c.mark-result.new.self c.write-written.new.disk c.take-apart.result.making) _ c.args.pass.now c.args.pass.now c.requires.seat.1 t.2 c.requires.admits (sym lent.generation) quiet refl c.mark-result.ensures.admits)
 
 pub returns-clause-rests : goal.returns-clause-rests
 returns-clause-rests g c =
@@ -39,7 +39,7 @@ returns-clause-first g c =
     let given = c.give.ensures.given in
     let lent = lent_there _ _ _ _ t.0 _ c.take-apart.result _ c.requires.seat.1 t.2 in
     let same = ((c.mark-result.ensures.notes c.args.disk lent.rests c.write-written.ensures).1 Staged).generation in
-    let done = called _ _ _ _ t.0 given.0 None c.take-apart.result (with_disk c.mark-result.new.self c.write-written.new.disk) _ _ _ _ c.give.new.seat.me _ _ c.args.pass.now c.args.pass.now _ refl (c.give.ensures.same ∙ c.take-apart.ensures.same) c.requires.seat.1 t.1 given.2 t.2 same in
+    let done = called _ _ _ _ t.0 given.0 None c.take-apart.result (with_disk c.mark-result.new.self c.write-written.new.disk c.take-apart.result.making) _ _ _ _ c.give.new.seat.me _ _ c.args.pass.now c.args.pass.now _ refl (c.give.ensures.same ∙ c.take-apart.ensures.same) c.requires.seat.1 t.1 given.2 t.2 same in
     done.grew.first
 
 pub returns-clause-notes : goal.returns-clause-notes
@@ -48,7 +48,7 @@ returns-clause-notes g c =
     let given = c.give.ensures.given in
     let lent = lent_there _ _ _ _ t.0 _ c.take-apart.result _ c.requires.seat.1 t.2 in
     let same = ((c.mark-result.ensures.notes c.args.disk lent.rests c.write-written.ensures).1 Staged).generation in
-    let done = called _ _ _ _ t.0 given.0 None c.take-apart.result (with_disk c.mark-result.new.self c.write-written.new.disk) _ _ _ _ c.give.new.seat.me _ _ c.args.pass.now c.args.pass.now _ refl (c.give.ensures.same ∙ c.take-apart.ensures.same) c.requires.seat.1 t.1 given.2 t.2 same in
+    let done = called _ _ _ _ t.0 given.0 None c.take-apart.result (with_disk c.mark-result.new.self c.write-written.new.disk c.take-apart.result.making) _ _ _ _ c.give.new.seat.me _ _ c.args.pass.now c.args.pass.now _ refl (c.give.ensures.same ∙ c.take-apart.ensures.same) c.requires.seat.1 t.1 given.2 t.2 same in
     (given.0, done.grew, given.1)
 
 pub returns-clause-admits : goal.returns-clause-admits
@@ -57,7 +57,7 @@ returns-clause-admits g c =
     let given = c.give.ensures.given in
     let lent = lent_there _ _ _ _ t.0 _ c.take-apart.result _ c.requires.seat.1 t.2 in
     let same = ((c.mark-result.ensures.notes c.args.disk lent.rests c.write-written.ensures).1 Staged).generation in
-    let done = called _ _ _ _ t.0 given.0 None c.take-apart.result (with_disk c.mark-result.new.self c.write-written.new.disk) _ _ _ _ c.give.new.seat.me _ _ c.args.pass.now c.args.pass.now _ refl (c.give.ensures.same ∙ c.take-apart.ensures.same) c.requires.seat.1 t.1 given.2 t.2 same in
+    let done = called _ _ _ _ t.0 given.0 None c.take-apart.result (with_disk c.mark-result.new.self c.write-written.new.disk c.take-apart.result.making) _ _ _ _ c.give.new.seat.me _ _ c.args.pass.now c.args.pass.now _ refl (c.give.ensures.same ∙ c.take-apart.ensures.same) c.requires.seat.1 t.1 given.2 t.2 same in
     done.among
 
 pub returns-clause-stale : goal.returns-clause-stale
@@ -69,11 +69,11 @@ returns-clause-learned g c =
     let lent = lent_there _ _ _ _ t.0 _ c.take-apart.result _ c.requires.seat.1 t.2 in
     let notes = c.mark-result.ensures.notes c.args.disk lent.rests c.write-written.ensures in
     let quiet = flush_quiet (view_of c.args.pass.now) (Some c.take-apart.result.apart.generation) c.mark-result.result notes.0 notes.2 in
-    let marked : Marked (record { disk = c.args.disk; batch = c.args.batch; generation = c.args.pass.now.generation }) c.write-written.new.disk notes.0 c.take-apart.result.apart c.mark-result.new.self =
-    record { moves = notes.1 Staged; rests = c.mark-result.ensures.rests c.args.disk lent.rests c.write-written.ensures; home = c.mark-result.ensures.home } in
-    let moves = marks notes.0 c.take-apart.result.apart c.mark-result.new.self _ c.take-apart.result.disk c.write-written.new.disk (quiet_own notes.0 quiet) marked in
+    let marked : Marked (record { disk = c.args.disk; batch = c.args.batch; generation = c.args.pass.now.generation }) c.write-written.new.disk notes.0 c.take-apart.result.apart c.mark-result.new.self c.take-apart.result.making =
+    record { moves = notes.1 Staged; rests = c.mark-result.ensures.rests c.args.disk lent.rests c.write-written.ensures; made = c.mark-result.ensures.made c.args.disk c.take-apart.result.making lent.rests c.write-written.ensures lent.making; home = c.mark-result.ensures.home } in
+    let moves = marks notes.0 c.take-apart.result c.mark-result.new.self c.take-apart.result.making _ c.write-written.new.disk (quiet_own notes.0 quiet) marked in
     let given = c.give.ensures.given in
     let same = ((c.mark-result.ensures.notes c.args.disk lent.rests c.write-written.ensures).1 Staged).generation in
-    let done = called _ _ _ _ t.0 given.0 None c.take-apart.result (with_disk c.mark-result.new.self c.write-written.new.disk) _ _ _ _ c.give.new.seat.me _ _ c.args.pass.now c.args.pass.now _ refl (c.give.ensures.same ∙ c.take-apart.ensures.same) c.requires.seat.1 t.1 given.2 t.2 same in
-    flush_learns _ _ _ _ t.0 notes.0 c.take-apart.result (with_disk c.mark-result.new.self c.write-written.new.disk) c.args.seat.now.table_id c.args.seat.now.me (token_of c.args.seat.now.table_id c.args.number c.args.seat.now.me.0) _ _ None (user_of (Some c.take-apart.result.apart.generation) (view_of c.args.pass.now)) c.mark-result.result refl c.requires.seat.1 t.2 notes.2 moves
+    let done = called _ _ _ _ t.0 given.0 None c.take-apart.result (with_disk c.mark-result.new.self c.write-written.new.disk c.take-apart.result.making) _ _ _ _ c.give.new.seat.me _ _ c.args.pass.now c.args.pass.now _ refl (c.give.ensures.same ∙ c.take-apart.ensures.same) c.requires.seat.1 t.1 given.2 t.2 same in
+    flush_learns _ _ _ _ t.0 notes.0 c.take-apart.result (with_disk c.mark-result.new.self c.write-written.new.disk c.take-apart.result.making) c.args.seat.now.table_id c.args.seat.now.me (token_of c.args.seat.now.table_id c.args.number c.args.seat.now.me.0) _ _ None (user_of (Some c.take-apart.result.apart.generation) (view_of c.args.pass.now)) c.mark-result.result refl c.requires.seat.1 t.2 notes.2 moves
     (marks_told c.args.batch c.write-written.result _ _ c.mark-result.result c.mark-result.ensures.marks) done.grew.first done.past

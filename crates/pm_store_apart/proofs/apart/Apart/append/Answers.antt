@@ -55,7 +55,7 @@ invariant_of-self-in-Ok g c =
         front = omega (arith, upto, ap length emptied);
         needs = waits_bare.1 ∙ sym (ap needs_alone emptied);
         room = λ whole. omega (arith, waits_bare.1);
-        alone = ap (λ (l : Log). l.making) c.in-Ok.ensures.grown ∙ its.alone;
+        no_longer = ap (λ (l : Log). more_of l.making) c.in-Ok.ensures.grown ∙ its.no_longer;
       } ∣₁;
       ticks = c.args.self.now.ticks;
       room = omega (arith, c.requires.room, c.answer.ensures.room);
@@ -102,7 +102,7 @@ invariant_of-self-in-Err-Disk g c =
         front = its.front;
         needs = its.needs;
         room = λ whole. absurd (some_none (g.D.Disk.ticks c.append.new.disk) (sym broke ∙ whole));
-        alone = ap (λ (l : Log). l.making) (c.in-Err-Disk.ensures.disk (search rules)).0 ∙ its.alone;
+        no_longer = ap (λ (l : Log). more_of l.making) (c.in-Err-Disk.ensures.disk (search rules)).0 ∙ its.no_longer;
       } ∣₁;
       ticks = c.args.self.now.ticks;
       room = omega (arith, c.requires.room, c.note_answer.ensures.room, c.note_fault.ensures.room);
@@ -295,7 +295,7 @@ returns-in-Err-Full-clause-notes g c =
     let needs = full.1 ∙ ap log.need_of c.from_ref.ensures.value ∙ need_is ran.commit c.requires.some in (
       entry ∷ [],
       λ ways. rw (same, is) (finds_full c.history_laws.ensures.past c.history_laws.ensures.present (over_of told ways c.args.disk.now c.args.self.now) c.args.live (g.B.Chronicle.entries c.note_full.new.book) pid need room ran.script ran.commit
-          c.requires.live c.requires.unbroken (attends c.args.pass.now (alone c.args.self.now) c.requires.admits) c.requires.answer.commit_is needs full.3 (inr (omega (arith, full.2, waits_bare.1, ap more_of its.alone)))
+          c.requires.live c.requires.unbroken (attends c.args.pass.now (alone c.args.self.now) c.requires.admits) c.requires.answer.commit_is needs full.3 (inr (omega (arith, full.2, waits_bare.1, its.no_longer)))
           c.note_full.ensures.entries),
       rw c.note_full.ensures.full (c.requires.answer.writes c.requires.some, refl),
     )

@@ -1,9 +1,10 @@
 use Rattle.std.{proofs.Common.{◌≡◌, ◌∙◌, Bool, ℕ, ◌+◌, ◌-◌, ◌*◌, List, [], ◌∷◌, ◌++◌, Option, Some, None, refl, sym, ap, subst, arith, length, take, drop}, proofs.lemmas.List.{length-drop, length-take}, specs.Prelude.{IfSome, cond}}
 use Rattle.pm_query.specs.{pm_disk.Disk.TellsStill, pm_rows.{declared.commit.Change.Change, Batch.IsBatch, Limits.max_commits}, declared.book.BookEntry.{BookEntry, TheVariants.Broke}}
-use Rattle.pm_log.specs.{Half.more_of, declared.log.Log.{Log}}
+use Rattle.pm_log.specs.{Half.more_of, Making.IsUnderWay, declared.log.Log.Log}
 use Rattle.pm_stage.specs.Stage.{Waiting, flushed_to}
-use Rattle.pm_store_apart.{specs.{declared.{commits.Commits.Commits, live.Live.Live}, Lending.{CameTo, HasFailed, IsDurable, LivesAt, StopsAt}, Moment.{Moment, alone, over_of}, MovesLaws.moves_none, Rests.Rests, Waits.needs_alone}, proofs.{Lendings.{is_less, is_oldest, left_of, unread_none}, Passing.{attends, inside_still, staged_still}, Resting.{LivesWith, StopsOneOf, rests_broken}, Staging.{Writes, flush_fails, flushes, rests_written}, StepsLaws.some_none, WaitingLaws.{need_some, needs_parts}}}
+use Rattle.pm_store_apart.{specs.{declared.{commits.Commits.Commits, live.Live.Live}, Lending.{CameTo, HasFailed, IsDurable, LivesAt, MakesWith, StopsAt}, Moment.{Moment, alone, over_of}, MovesLaws.moves_none, Rests.Rests, Waits.needs_alone}, proofs.{Making.{beside_on, made_broken, made_written}, Lendings.{is_less, is_oldest, left_of, unread_none}, Passing.{attends, inside_still, staged_still}, Resting.{LivesWith, StopsOneOf, rests_broken}, Staging.{Writes, flush_fails, flushes, rests_written}, StepsLaws.some_none, WaitingLaws.{need_some, needs_parts}}}
 use Rattle.pm_outside.proofs.AddedLaws.{added_none}
+use Rattle.pm_store_apart.specs.declared.batch.Written.TheVariants as written
 use Rattle.pm_store_apart.proofs.apart.Apart.mark.Goals as goal
 
 pub unreachable-requires : goal.unreachable-requires
@@ -129,6 +130,8 @@ returns-in-Durable-clause-marks g c =
     let gone : w.flushed + k - w.flushed ≡ k = omega arith in
     let left : c.flushed.new.self.commits ≡ drop k w.commits = ap (λ (x : Waiting). x.commits) staged ∙ ap (λ (n : ℕ). drop n w.commits) gone in
     record {
+      tick = c.in-Durable.tick;
+      durable = c.in-Durable.is ∙ ap (λ (l : Log). written.Durable l c.in-Durable.tick) done.grown;
       new = _;
       read = refl;
       log = done.grown;
@@ -162,7 +165,7 @@ invariant_of-self g c =
         front = omega (arith, old.waits.front, ap (λ (x : Waiting). x.flushed) staged, ap length left, length-drop k w.commits, old.few);
         needs = omega (arith, is.less, old.waits.needs, needs_parts w.commits k, ap needs_alone left);
         room = λ open_log. omega (arith, old.waits.room unbroken, old.waits.needs, ap (λ (l : Log). l.limit) done.grown, ap (λ (l : Log). l.limit) old.same, ap (λ (l : Log). more_of l.making) done.grown, ap (λ (l : Log). more_of l.making) old.same, is.end, need_some (take k w.commits) batch_is.some, needs_parts w.commits k, is.less);
-        alone = ap (λ (l : Log). l.making) done.grown ∙ sym (ap (λ (l : Log). l.making) old.same) ∙ old.waits.alone;
+        no_longer = ap (λ (l : Log). more_of l.making) done.grown ∙ sym (ap (λ (l : Log). more_of l.making) old.same) ∙ old.waits.no_longer;
       } ∣₁;
       ticks = c.args.self.now.ticks;
       room = omega (arith, c.args.self.now.room);
@@ -280,7 +283,7 @@ invariant_of-self-in-Failed g c =
         front = old.waits.front;
         needs = old.waits.needs;
         room = λ whole. absurd (some_none (g.D.Disk.ticks c.args.disk.now) (sym (ap (λ (l : Log). l.since) failed.broke) ∙ whole));
-        alone = ap (λ (l : Log). l.making) failed.broke ∙ sym (ap (λ (l : Log). l.making) old.same) ∙ old.waits.alone;
+        no_longer = ap (λ (l : Log). more_of l.making) failed.broke ∙ sym (ap (λ (l : Log). more_of l.making) old.same) ∙ old.waits.no_longer;
       } ∣₁;
       ticks = c.args.self.now.ticks;
       room = omega (arith, c.args.self.now.room, c.note_fault.ensures.room, ap {B = ℕ} (λ (b : Bool). cond b 1 0) c.requires.under.out);
@@ -319,3 +322,48 @@ overflow_sub-live-in-Durable g c =
 
 pub returns-in-Failed-clause-marks : goal.returns-in-Failed-clause-marks
 returns-in-Failed-clause-marks g c = (c.in-Failed.log, c.in-Failed.is)
+
+pub returns-in-Durable-clause-made : goal.returns-in-Durable-clause-made
+returns-in-Durable-clause-made g c = λ taken half rests wrote made.
+    let live = c.in-Some.live in
+    let batch = c.args.batch in
+    let its = c.in-Durable.log in
+    let w = c.args.self.now.stage in
+    let k = length batch.commits.items in
+    let seen = g.D.Disk.seen taken in
+    let files_now = g.D.Disk.seen c.args.disk.now in
+    let from = g.D.Disk.images taken (g.D.Disk.ticks taken) in
+    let to = g.D.Disk.images c.args.disk.now (g.D.Disk.ticks c.args.disk.now) in
+    let old = is_oldest c.args.self.now batch live c.in-Some.is c.requires.under in
+    let done : IsDurable g.D.Disk taken c.args.disk.now batch its c.in-Durable.tick = subst (CameTo g.D.Disk taken c.args.disk.now batch) c.in-Durable.is wrote.came in
+    let gates = 9 * (c.len.result - 1) in
+    let is = is_less w live batch its gates old wrote.is_batch done.grown (omega (arith, c.len.ensures)) in
+    let new : Live = record { log = its; kept = live.kept; epoch = live.epoch; faults = live.faults; closed = live.closed; front = live.front; needs = live.needs - (its.end - live.log.end + gates); mark = c.in-Durable.tick } in
+    let lives : TellsStill (LivesWith live new (take k w.commits) from to) seen files_now =
+    subst (λ (b : List (List Change)). TellsStill (LivesAt live.log its b from to) seen files_now) (sym old.oldest)
+    (subst (λ (l : Log). TellsStill (LivesAt l its batch.commits.items from to) seen files_now) (sym old.same) done.lives) in
+    let makes : TellsStill (MakesWith live.log its (take k w.commits)) seen files_now =
+    subst (λ (b : List (List Change)). TellsStill (MakesWith live.log its b) seen files_now) (sym old.oldest)
+    (subst (λ (l : Log). TellsStill (MakesWith l its batch.commits.items) seen files_now) (sym old.same) done.makes) in
+    beside_on c.args.self.now.live live new half seen files_now c.in-Some.is (λ h was. made_written seen files_now live new h c.args.self.now.rows w.commits k from to old.few (subst IsBatch (sym old.oldest) wrote.is_batch)
+    (omega (arith, old.waits.flushed, c.batch-oldest.ensures.number)) (ap (λ (l : Log). l.since) old.same ∙ wrote.unbroken) (ap (λ (l : Log). l.epoch) done.grown ∙ sym (ap (λ (l : Log). l.epoch) old.same))
+    (ap (λ (l : Log). l.base_end) done.grown ∙ sym (ap (λ (l : Log). l.base_end) old.same)) is.longer (done.under_way h (subst (λ (l : Log). IsUnderWay l h) old.same was.under_way)) lives makes
+    (subst (λ (l : Option Live). ∥ Rests l c.args.self.now.rows w.commits seen from ∥₁) c.in-Some.is rests) was) made
+
+pub returns-in-Failed-clause-made : goal.returns-in-Failed-clause-made
+returns-in-Failed-clause-made g c = λ taken half rests wrote made.
+    let live = c.in-Some.live in
+    let to = g.D.Disk.ticks c.args.disk.now in
+    let old = is_oldest c.args.self.now c.args.batch live c.in-Some.is c.requires.under in
+    let failed : HasFailed g.D.Disk taken c.args.disk.now c.args.batch c.in-Failed.log = subst (CameTo g.D.Disk taken c.args.disk.now c.args.batch) c.in-Failed.is wrote.came in
+    let new : Live = record { log = c.in-Failed.log; kept = live.kept; epoch = live.epoch; faults = c.faults.result; closed = live.closed; front = live.front; needs = live.needs; mark = live.mark } in
+    let its : c.in-Failed.log ≡ record live.log { since = Some to } = failed.broke ∙ ap (λ (l : Log). record l { since = Some to }) (sym old.same) in
+    beside_on c.args.self.now.live live new half (g.D.Disk.seen taken) (g.D.Disk.seen c.args.disk.now) c.in-Some.is
+    (λ h was. made_broken live new h (g.D.Disk.seen taken) (g.D.Disk.seen c.args.disk.now) (ap (λ (l : Log). l.epoch) its) (ap (λ (l : Log). l.base_end) its) (ap (λ (l : Log). l.end) its)
+    (subst (λ (l : Log). IsUnderWay l h) (sym its) (record { making = was.under_way.making; from = was.under_way.from; done = was.under_way.done; number = was.under_way.number }))
+    (λ whole. some_none to (sym (ap (λ (l : Log). l.since) its) ∙ whole)) was) made
+
+pub returns-clause-made : goal.returns-clause-made
+returns-clause-made g c = λ taken half rests wrote made.
+    let same = subst (CameTo g.D.Disk taken c.args.disk.now c.args.batch) c.in-NoMemory.is wrote.came in
+    rw same made

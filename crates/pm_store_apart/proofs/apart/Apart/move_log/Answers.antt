@@ -1,8 +1,8 @@
-use Rattle.std.{proofs.{Common.{rules, ◌≡◌, ◌||◌, ◌+◌, ◌∙◌, inl, ℕ, ◌-◌, ◌^◌, List, [], ◌∷◌, Option, None, Some, Err, refl, sym, ap, subst, arith, true}, Math.Logic.∥∥₁_map}, specs.Prelude.IfSome}
-use Rattle.pm_query.specs.{pm_disk.Files.Files, pm_rows.{declared.commit.Change.Change, Fold.RowMap}, declared.book.BookEntry.{BookEntry, TheVariants.{Broke, CheckpointEnded}}}
+use Rattle.std.{proofs.{Common.{rules, ◌≡◌, ◌||◌, ◌+◌, ◌∙◌, inl, ℕ, ◌-◌, ◌^◌, length, List, [], ◌∷◌, Option, None, Some, Err, refl, sym, ap, subst, arith, true}, Math.Logic.∥∥₁_map}, specs.Prelude.IfSome}
+use Rattle.pm_query.specs.{pm_disk.Files.Files, pm_rows.{declared.commit.Change.Change, Fold.RowMap}, declared.book.BookEntry.{BookEntry, TheVariants.{Broke, CheckpointEnded}}, Book.history_of}
 use Rattle.pm_log.specs.declared.log.LogFault.TheVariants as LogFault
-use Rattle.pm_store_apart.{specs.{Redos.IsAtLastEpoch, declared.{commits.Commits.Commits, live.Live.Live}, Moment.{Moment, alone, over_of}, Rests.Rests, Stands.bytes_of_rows}, proofs.{Passing.{attends, inside_still, staged_still}, CheckpointsLaws.{Checkpoints, checkpoint_fails, checkpoints, gate_other, rests_moved, stands_afresh, through_same}, Resting.{rests_broken, tells_nothing}, StepsLaws.{notes_by, some_none}, WaitingLaws.{bare_rests, waits_at, waits_none}, Lengths.base_size}}
-use Rattle.pm_log.specs.declared.log.Log.{Log}
+use Rattle.pm_store_apart.{specs.{Redos.IsAtLastEpoch, declared.{commits.Commits.Commits, live.Live.Live}, Moment.{Moment, alone, over_of}, Rests.Rests, Stands.bytes_of_rows}, proofs.{Passing.{attends, inside_still, staged_still}, CheckpointsLaws.{gate_other, rests_moved, stands_afresh, through_same, while_moving}, Remaking.{Laws, MovesLog, Remakes, breaks, checkpoints, rows_fit}, Resting.{rests_broken, tells_nothing}, StepsLaws.{anchored_whole, notes_by, some_none}, WaitingLaws.{bare_rests, waits_at, waits_none}, Lengths.base_size}}
+use Rattle.pm_log.specs.{Half.more_of, declared.log.Log.Log}
 use Rattle.pm_store_apart.proofs.apart.Apart.move_log.Goals as goal
 
 pub checkpoint-requires-clause-gate : goal.checkpoint-requires-clause-gate
@@ -10,9 +10,6 @@ checkpoint-requires-clause-gate g c = λ whole.
     let seen = g.D.Disk.seen c.args.disk.now in
     let images = g.D.Disk.images c.args.disk.now (g.D.Disk.ticks c.args.disk.now) in
     gate_other seen c.args.live c.args.self.now.rows c.args.self.now.stage.commits images (subst (λ (l : Option Live). ∥ Rests l c.args.self.now.rows c.args.self.now.stage.commits seen images ∥₁) c.requires.read c.requires.rests) whole (g.met.D.Disk.reads_as_left c.args.disk.now)
-
-pub checkpoint-requires-clause-alone : goal.checkpoint-requires-clause-alone
-checkpoint-requires-clause-alone g c = (waits_at c.args.self.now.live c.args.live c.args.self.now.stage c.requires.read c.args.self.now.behind).alone
 
 pub checkpoint-requires-clause-rows : goal.checkpoint-requires-clause-rows
 checkpoint-requires-clause-rows g c = λ k d lt. ((c.are_typed.ensures k d lt).0, (c.are_typed.ensures k d lt).1, c.args.self.now.short k d lt)
@@ -37,7 +34,7 @@ invariant_of-self g c =
         front = its.front;
         needs = its.needs;
         room = λ whole. omega (arith, waits_bare.1);
-        alone = c.in-Ok.ensures.kept.5;
+        no_longer = ap more_of c.in-Ok.ensures.kept.5;
       } ∣₁;
       ticks = c.args.self.now.ticks;
       room = omega (arith, c.requires.room, c.note.ensures.room);
@@ -75,16 +72,18 @@ returns-in-Ok-clause-notes g c =
     let kept = c.in-Ok.ensures.kept in
     let end : c.checkpoint.new.self.end + 1 ≡ bytes_of_rows rows = omega (arith, kept.2, c.in-Ok.ensures.base, base_size (c.args.live.log.epoch + 1) c.args.clean c.args.live.log.count rows) in
     let now : Commits → Moment = λ ways. record { book = g.B.Chronicle.entries c.note.new.self; generation = c.args.self.now.generation; inside = c.args.self.now.inside; rows = rows; live = Some new; skipped = c.args.self.now.skipped; commits = ways; staged = c.args.self.now.stage.commits; files = files_now; images = k; ticks = then; faults = g.D.Disk.faults c.checkpoint.new.disk } in
-    let moves : (ways : Commits) → Checkpoints (over_of told ways c.args.disk.now c.args.self.now) (now ways) c.args.live new = λ ways. record {
+    let laws : Laws = record { past = c.history_laws.ensures.past; present = c.history_laws.ensures.present; within = c.rows_are_within_needs.ensures.numbers } in
+    let before : Commits → Moment = λ ways. over_of told ways c.args.disk.now c.args.self.now in
+    let call : (ways : Commits) → Remakes (before ways) (now ways) c.args.live new (while_moving c.args.live rows) = λ ways. record {
       generation = refl;
       commits = refl;
       inside = refl;
-      unstaged_now = c.requires.unstaged;
-      front = waits_bare.0;
-      front_now = refl;
-      needs = waits_bare.1;
       read = c.requires.read;
       unbroken = c.requires.unbroken;
+      fronts = omega (arith, waits_bare.0, ap length c.requires.unstaged);
+      staged = refl;
+      front = refl;
+      needs = refl;
       read_now = refl;
       kept = refl;
       limit = kept.3;
@@ -94,12 +93,23 @@ returns-in-Ok-clause-notes g c =
       time = c.checkpoint.ensures.time;
       later = c.checkpoint.ensures.cause.later;
       tells = tells_nothing _ seen files_now c.checkpoint.ensures.tells;
-      through = through_same seen c.args.live rows c.args.clean tick then i k rests c.requires.unbroken c.checkpoint.ensures.stops;
+      through = through_same seen c.args.live rows c.args.self.now.stage.commits c.args.clean tick then i k c.requires.unstaged c.checkpoint.ensures.stops;
+    } in
+    let there : ∥ Rests (Some new) rows c.args.self.now.stage.commits files_now (k then) ∥₁ = subst (λ (s : List (List Change)). ∥ Rests (Some new) rows s files_now (k then) ∥₁) (sym c.requires.unstaged)
+    (rests_moved seen files_now c.args.live new rows c.args.clean (i tick) (k then) c.requires.due refl rests c.requires.unbroken c.in-Ok.ensures.lives) in
+    let moves : (ways : Commits) → MovesLog (before ways) (now ways) c.args.live new (while_moving c.args.live rows) c.args.clean = λ ways. record {
+      whole = kept.4;
+      closed = refl;
+      next = c.in-Ok.ensures.epoch.1 ∙ c.in-Ok.ensures.epoch.0;
+      mark = c.ticks.ensures;
+      fits = λ base book is.
+          let fit = rows_fit laws base (before ways) c.args.live book is in
+          (omega (arith, is.fits c.requires.unbroken, fit), omega (arith, end, waits_bare.1, fit));
+      anchored = λ origin base book seen told gone held.
+          anchored_whole (now ways) (history_of base book) new refl c.requires.unstaged gone.rows_are (kept.1 ∙ sym waits_bare.0 ∙ gone.count_is c.requires.unbroken) there;
     } in (
       entry ∷ [],
-      λ ways. checkpoints (record { past = c.history_laws.ensures.past; present = c.history_laws.ensures.present; within = c.rows_are_within_needs.ensures.numbers }) (over_of told ways c.args.disk.now c.args.self.now) (now ways) c.args.live new pid c.args.clean (moves ways) kept.4 end refl (c.in-Ok.ensures.epoch.1 ∙ c.in-Ok.ensures.epoch.0) c.ticks.ensures
-          (subst (λ (s : List (List Change)). ∥ Rests (Some new) rows s files_now (k then) ∥₁) (sym c.requires.unstaged)
-          (rests_moved seen files_now c.args.live new rows c.args.clean (i tick) (k then) c.requires.due refl rests c.requires.unbroken c.in-Ok.ensures.lives)) (attends c.args.pass.now (alone c.args.self.now) c.requires.admits)
+      λ ways. checkpoints laws (before ways) (now ways) c.args.live new (while_moving c.args.live rows) pid c.args.clean (call ways) (moves ways) (attends c.args.pass.now (alone c.args.self.now) c.requires.admits)
           (notes_by entry told told _ refl c.note.ensures.entries),
       refl,
     )
@@ -148,16 +158,18 @@ returns-in-Err-Disk-clause-notes g c =
     let waits_bare = waits_none c.args.self.now.live c.args.live c.args.self.now.stage c.requires.read c.requires.unstaged c.args.self.now.behind in
     let broken = (c.in-Err-Disk.ensures.disk (search rules)).0 in
     let now : Commits → Moment = λ ways. record { book = g.B.Chronicle.entries c.note_fault.new.book; generation = c.args.self.now.generation; inside = c.args.self.now.inside; rows = rows; live = Some new; skipped = c.args.self.now.skipped; commits = ways; staged = c.args.self.now.stage.commits; files = files_now; images = k; ticks = then; faults = faults } in
-    let moves : (ways : Commits) → Checkpoints (over_of told ways c.args.disk.now c.args.self.now) (now ways) c.args.live new = λ ways. record {
+    let laws : Laws = record { past = c.history_laws.ensures.past; present = c.history_laws.ensures.present; within = c.rows_are_within_needs.ensures.numbers } in
+    let before : Commits → Moment = λ ways. over_of told ways c.args.disk.now c.args.self.now in
+    let call : (ways : Commits) → Remakes (before ways) (now ways) c.args.live new (while_moving c.args.live rows) = λ ways. record {
       generation = refl;
       commits = refl;
       inside = refl;
-      unstaged_now = c.requires.unstaged;
-      front = waits_bare.0;
-      front_now = refl;
-      needs = waits_bare.1;
       read = c.requires.read;
       unbroken = c.requires.unbroken;
+      fronts = omega (arith, waits_bare.0, ap length c.requires.unstaged);
+      staged = refl;
+      front = refl;
+      needs = refl;
       read_now = refl;
       kept = refl;
       limit = ap (λ (l : Log). l.limit) broken;
@@ -167,11 +179,12 @@ returns-in-Err-Disk-clause-notes g c =
       time = c.checkpoint.ensures.time;
       later = c.checkpoint.ensures.cause.later;
       tells = tells_nothing _ seen files_now c.checkpoint.ensures.tells;
-      through = through_same seen c.args.live rows c.args.clean tick then i k rests c.requires.unbroken c.checkpoint.ensures.stops;
+      through = through_same seen c.args.live rows c.args.self.now.stage.commits c.args.clean tick then i k c.requires.unstaged c.checkpoint.ensures.stops;
     } in (
       entry ∷ [],
-      λ ways. checkpoint_fails (record { past = c.history_laws.ensures.past; present = c.history_laws.ensures.present; within = c.rows_are_within_needs.ensures.numbers }) (over_of told ways c.args.disk.now c.args.self.now) (now ways) c.args.live new pid then (moves ways)
-          (ap (λ (l : Log). l.since) broken) refl refl c.faults.ensures (c.checkpoint.ensures.cause.rose (search rules)) (g.met.D.Disk.counted c.checkpoint.new.disk).1
+      λ ways. breaks laws (before ways) (now ways) c.args.live new (while_moving c.args.live rows) pid then (call ways)
+          (record { broke = ap (λ (l : Log). l.since) broken; closed = refl; mark = refl; fault = c.faults.ensures; rose = c.checkpoint.ensures.cause.rose (search rules); small = (g.met.D.Disk.counted c.checkpoint.new.disk).1 })
+          (λ base book is. omega (arith, is.fits c.requires.unbroken, rows_fit laws base (before ways) c.args.live book is))
           (attends c.args.pass.now (alone c.args.self.now) c.requires.admits) c.note_fault.ensures.entries,
       (then, faults, refl),
     )
@@ -232,7 +245,7 @@ invariant_of-self-in-Err-Disk g c =
         front = its.front;
         needs = its.needs;
         room = λ whole. absurd (some_none then (sym broke ∙ whole));
-        alone = ap (λ (l : Log). l.making) broken ∙ its.alone;
+        no_longer = ap (λ (l : Log). more_of l.making) broken;
       } ∣₁;
       ticks = c.args.self.now.ticks;
       room = omega (arith, c.requires.room, c.note_fault.ensures.room);

@@ -1,6 +1,6 @@
 use Rattle.std.{proofs.Common.{rules, ◌≡◌, ◌≢◌, ◌∙◌, ℕ, List, [], ◌∷◌, length, Some, Err, refl, sym, ap, subst, arith, false}, specs.Prelude.IfSome}
 use Rattle.pm_query.specs.{pm_rows.{declared.commit.Change.Change, Limits.max_file_bytes}, declared.{book.BookEntry.{BookEntry, TheVariants.{Broke, Redone}}, store.StoreNo.TheVariants.Redo}, Calls.{RedoNotes, user_of}, pm_record.declared.fault.RedoFault.RedoFault}
-use Rattle.pm_log.specs.declared.log.Log.{Log}
+use Rattle.pm_log.specs.{Half.more_of, declared.log.Log.Log}
 use Rattle.pm_stage.specs.Stage.{Waiting}
 use Rattle.pm_store_apart.{specs.{Rests.Rests, Waits.needs_alone, declared.{commits.Commits.Commits, live.Live.Live}, Moment.{Moment, alone, over_of}, Redos.IsFoundIn, Passes.view_of, Stands.bytes_of_rows}, proofs.{Passing.{attends, inside_still, none_staged}, Redos.{Reads, Redoes, goes_on_found, redo_notes_none, reads_fault, reads_nothing, redoes_first, rests_found}, Resting.{rests_unread, tells_nothing}, StepsLaws.{not_both, notes_by, same_live}, Lengths.stands_size}}
 use Rattle.pm_query.specs.pm_record.declared.fault.RedoFault.TheVariants as fault
@@ -21,7 +21,7 @@ invariant_of-self g c =
         front = omega (arith, upto, ap length emptied);
         needs = sym (ap needs_alone emptied);
         room = λ whole. omega arith;
-        alone = ap (λ (l : Log). l.making) c.resume-log.ensures;
+        no_longer = ap (λ (l : Log). more_of l.making) c.resume-log.ensures;
       } ∣₁;
       ticks = c.args.self.now.ticks;
       room = omega (arith, c.requires.room, c.note.ensures.room);

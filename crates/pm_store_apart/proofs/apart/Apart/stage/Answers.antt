@@ -1,7 +1,6 @@
 use Rattle.std.proofs.Common.{rules, ◌≡◌, ◌∙◌, inl, inr, ◌+◌, ◌-◌, List, [], ◌∷◌, ◌++◌, Option, Some, refl, sym, ap, subst, arith, length, length-append}
 use Rattle.pm_query.specs.{pm_rows.{declared.commit.Change.Change, Batch.{IsBatch, IsCommit}, Fold.{committed}, Limits.IsWithinRowLimits}, Answer.commit_of, Book.need_of, Limits.HasShortRows, declared.book.BookEntry.{BookEntry, TheVariants.{Answered, LogFull}}}
 use Rattle.pm_query.specs.pm_rows.LogSize as log
-use Rattle.pm_log.specs.Half.{more_of}
 use Rattle.pm_stage.specs.Stage.{Waiting}
 use Rattle.pm_store_apart.{specs.{declared.live.Live.Live, ApartLaws.grows_still, Moment.{alone, over_of}, Rests.Rests, Waits.{IsBehind, needs_alone}}, proofs.{Lendings.{same_log, stays_so}, Passing.{attends, inside_answered, inside_still, no_less}, Resting.{batch_is, need_is}, Staging.{Stages, rests_added, stages}, StepsLaws.{finds_full, stays_put}, WaitingLaws.{commit_is, needs_added, waits_at}}}
 use Rattle.pm_store_apart.proofs.apart.Apart.stage.Goals as goal
@@ -38,7 +37,7 @@ returns-then-need-room-clause-notes g c =
       entry ∷ [],
       grows_still (entry ∷ []) c.args.self.now _ (λ ways disk. finds_full c.history_laws.ensures.past c.history_laws.ensures.present (over_of told ways disk c.args.self.now) c.args.live (g.B.Chronicle.entries c.note_full.new.book) pid need room ran.script ran.commit
           c.requires.live c.requires.unbroken (attends c.args.pass.now (alone c.args.self.now) c.requires.admits) c.requires.answer.commit_is (batch ∙ need_is ran.commit c.requires.some)
-          (omega (arith, c.if-need-room.true)) (inr (omega (arith, c.room.ensures, ap more_of its.alone))) c.note_full.ensures.entries) (refl, refl, refl) refl,
+          (omega (arith, c.if-need-room.true)) (inr (omega (arith, c.room.ensures, its.no_longer))) c.note_full.ensures.entries) (refl, refl, refl) refl,
       rw c.note_full.ensures.full (c.requires.answer.writes c.requires.some, refl),
     )
 
@@ -83,7 +82,7 @@ invariant_of-self-in-Ok g c =
         front = c.in-Ok.ensures.front;
         needs = omega (arith, its.needs, need, sum);
         room = λ whole. omega (arith, its.room whole, c.room.ensures, c.if-need-room.false);
-        alone = its.alone;
+        no_longer = its.no_longer;
       } ∣₁;
       ticks = c.args.self.now.ticks;
       room = omega (arith, c.requires.room, c.answer.ensures.room);

@@ -3,7 +3,7 @@ use Rattle.pm_query.specs.{pm_disk.Disk.TellsStill, pm_rows.{declared.commit.Cha
 use Rattle.pm_query.specs.pm_rows.LogSize as log
 use Rattle.pm_log.specs.declared.log.{LogFault.LogFault}
 use Rattle.pm_log.specs.declared.log.LogFault.TheVariants as fault
-use Rattle.pm_store_apart.{specs.Lending.{LivesAt, StopsAt, log_with}, proofs.{Resting.{short_or_disk, tells_nothing}, StepsLaws.some_none}}
+use Rattle.pm_store_apart.{specs.Lending.{LivesAt, MakesWith, StopsAt, log_with}, proofs.{Resting.{short_or_disk, tells_nothing}, StepsLaws.some_none}}
 use Rattle.pm_store_apart.proofs.batch.Batch.write.Goals as goal
 
 pub append-requires-clause-gate : goal.append-requires-clause-gate
@@ -40,11 +40,13 @@ returns-in-Ok g c =
     subst (λ (x : List (List Change)). c.append.new.self ≡ record its { end = its.end + log.need_of x; count = its.count + length x }) value c.in-Ok.ensures.grown in
     let lives : TellsStill (LivesAt its c.append.new.self items (i from) (j to)) seen files_now =
     subst (λ (x : List (List Change)). TellsStill (LivesAt its c.append.new.self x (i from) (j to)) seen files_now) value c.in-Ok.ensures.lives in
+    let makes : TellsStill (MakesWith its c.append.new.self items) seen files_now =
+    subst (λ (x : List (List Change)). TellsStill (MakesWith its c.append.new.self x) seen files_now) value c.in-Ok.ensures.makes in
     record {
       unbroken = c.requires.unbroken;
       is_batch = c.requires.is_batch;
       number = c.requires.number;
-      came = record { grown = grown; tick_is = c.in-Ok.ensures.receipt.1; lives = lives };
+      came = record { grown = grown; tick_is = c.in-Ok.ensures.receipt.1; lives = lives; under_way = c.append.ensures.under_way; makes = makes };
       time = c.append.ensures.time;
       later = c.append.ensures.cause.later;
       tells = tells_nothing _ seen files_now c.append.ensures.beside;

@@ -14,7 +14,7 @@ give_renewed-requires-clause-may g c =
     let did : Did c.self.inside.tokens c.self.invariant.2.0 0 [] [] t.0 c.into_store-store.result c.renew-result.new.self c.take_whole-place.result c.of-place.result c.args.gone.now c.args.generation c.renew-result.result =
     (c.renew-result.ensures.renews, c.renew-result.ensures.refused) in
     renew_may _ _ _ _ _ t.0 c.into_store-store.result c.renew-result.new.self c.take_whole-place.result c.of-place.result c.args.gone.now c.args.generation c.renew-result.result _ _ _ c.self.invariant.2.1 t.1 t.2 c.into_store-store.ensures
-    c.of-place.ensures did c.renew-result.ensures.disk
+    c.of-place.ensures.laid c.of-place.ensures.bare did c.renew-result.ensures.disk
 
 pub returns-clause-ok : goal.returns-clause-ok
 returns-clause-ok g c =

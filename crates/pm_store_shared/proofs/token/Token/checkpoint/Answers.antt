@@ -21,28 +21,28 @@ give-requires-clause-may g c =
     let view = c.checkpoint-result.ensures.view in
     let quiet = checkpoint_quiet (view_of c.args.pass.now) stamp c.args.clean c.checkpoint-result.result notes.0 notes.2 in
     token_may_quiet _ _ _ _ _ t.0 c.in_ok-place.place c.of-place.result c.args.pass.now c.checkpoint-result.new.pass notes.0 _ _ _ c.self.invariant.2.1 t.1 t.2
-    (checkpoint_free (view_of c.args.pass.now) stamp c.args.clean c.checkpoint-result.result notes.0 notes.2) quiet (whole notes.0 c.into_store-store.result c.checkpoint-result.new.self c.in_ok-place.place c.of-place.result (quiet_own notes.0 quiet) c.into_store-store.ensures c.of-place.ensures notes.1) in_ t.3 (ap (λ (v : PassView). v.pid) view) (ap (λ (v : PassView). v.generation) view)
-    (token_knows_same _ _ _ _ t.0 notes.0 c.in_ok-place.place c.of-place.result _ c.args.pass.now c.checkpoint-result.new.pass c.self.invariant.2.1 t.2 in_ t.3 quiet view (laid_admits _ c.checkpoint-result.new.self c.of-place.result c.of-place.ensures c.checkpoint-result.ensures.admits))
+    (checkpoint_free (view_of c.args.pass.now) stamp c.args.clean c.checkpoint-result.result notes.0 notes.2) quiet (whole notes.0 c.into_store-store.result c.checkpoint-result.new.self c.in_ok-place.place c.of-place.result (quiet_own notes.0 quiet) c.into_store-store.ensures c.of-place.ensures.laid c.of-place.ensures.bare notes.1) in_ t.3 (ap (λ (v : PassView). v.pid) view) (ap (λ (v : PassView). v.generation) view)
+    (token_knows_same _ _ _ _ t.0 notes.0 c.in_ok-place.place c.of-place.result _ c.args.pass.now c.checkpoint-result.new.pass c.self.invariant.2.1 t.2 in_ t.3 quiet view (laid_admits _ c.checkpoint-result.new.self c.of-place.result c.of-place.ensures.laid c.checkpoint-result.ensures.admits))
 
 pub returns-clause-notes : goal.returns-clause-notes
 returns-clause-notes g c =
     let t = c.in_ok-place.ensures.taken in
     let given = c.give.ensures.given in
-    let done = called _ _ _ _ t.0 given.0 _ c.in_ok-place.place c.of-place.result _ _ _ _ c.give.new.seat.me _ _ c.args.pass.now c.checkpoint-result.new.pass _ c.self.view_is (c.give.ensures.same ∙ c.take_whole_for.ensures.same) c.self.invariant.2.1 t.1 given.2 t.2 (whole c.checkpoint-result.ensures.notes.0 c.into_store-store.result c.checkpoint-result.new.self c.in_ok-place.place c.of-place.result (quiet_own _ (checkpoint_quiet (view_of c.args.pass.now) (Some (moment c.into_store-store.result).generation) c.args.clean c.checkpoint-result.result _ c.checkpoint-result.ensures.notes.2)) c.into_store-store.ensures c.of-place.ensures c.checkpoint-result.ensures.notes.1).generation in
+    let done = called _ _ _ _ t.0 given.0 _ c.in_ok-place.place c.of-place.result _ _ _ _ c.give.new.seat.me _ _ c.args.pass.now c.checkpoint-result.new.pass _ c.self.view_is (c.give.ensures.same ∙ c.take_whole_for.ensures.same) c.self.invariant.2.1 t.1 given.2 t.2 (whole c.checkpoint-result.ensures.notes.0 c.into_store-store.result c.checkpoint-result.new.self c.in_ok-place.place c.of-place.result (quiet_own _ (checkpoint_quiet (view_of c.args.pass.now) (Some (moment c.into_store-store.result).generation) c.args.clean c.checkpoint-result.result _ c.checkpoint-result.ensures.notes.2)) c.into_store-store.ensures c.of-place.ensures.laid c.of-place.ensures.bare c.checkpoint-result.ensures.notes.1).generation in
     (given.0, done.grew, given.1)
 
 pub returns-clause-admits : goal.returns-clause-admits
 returns-clause-admits g c =
     let t = c.in_ok-place.ensures.taken in
     let given = c.give.ensures.given in
-    (called _ _ _ _ t.0 given.0 _ c.in_ok-place.place c.of-place.result _ _ _ _ c.give.new.seat.me _ _ c.args.pass.now c.checkpoint-result.new.pass _ c.self.view_is (c.give.ensures.same ∙ c.take_whole_for.ensures.same) c.self.invariant.2.1 t.1 given.2 t.2 (whole c.checkpoint-result.ensures.notes.0 c.into_store-store.result c.checkpoint-result.new.self c.in_ok-place.place c.of-place.result (quiet_own _ (checkpoint_quiet (view_of c.args.pass.now) (Some (moment c.into_store-store.result).generation) c.args.clean c.checkpoint-result.result _ c.checkpoint-result.ensures.notes.2)) c.into_store-store.ensures c.of-place.ensures c.checkpoint-result.ensures.notes.1).generation).among
+    (called _ _ _ _ t.0 given.0 _ c.in_ok-place.place c.of-place.result _ _ _ _ c.give.new.seat.me _ _ c.args.pass.now c.checkpoint-result.new.pass _ c.self.view_is (c.give.ensures.same ∙ c.take_whole_for.ensures.same) c.self.invariant.2.1 t.1 given.2 t.2 (whole c.checkpoint-result.ensures.notes.0 c.into_store-store.result c.checkpoint-result.new.self c.in_ok-place.place c.of-place.result (quiet_own _ (checkpoint_quiet (view_of c.args.pass.now) (Some (moment c.into_store-store.result).generation) c.args.clean c.checkpoint-result.result _ c.checkpoint-result.ensures.notes.2)) c.into_store-store.ensures c.of-place.ensures.laid c.of-place.ensures.bare c.checkpoint-result.ensures.notes.1).generation).among
 
 pub returns-clause-stale : goal.returns-clause-stale
 returns-clause-stale g c =
     let t = c.in_ok-place.ensures.taken in
     let given = c.give.ensures.given in
-    let done = called _ _ _ _ t.0 given.0 _ c.in_ok-place.place c.of-place.result _ _ _ _ c.give.new.seat.me _ _ c.args.pass.now c.checkpoint-result.new.pass _ c.self.view_is (c.give.ensures.same ∙ c.take_whole_for.ensures.same) c.self.invariant.2.1 t.1 given.2 t.2 (whole c.checkpoint-result.ensures.notes.0 c.into_store-store.result c.checkpoint-result.new.self c.in_ok-place.place c.of-place.result (quiet_own _ (checkpoint_quiet (view_of c.args.pass.now) (Some (moment c.into_store-store.result).generation) c.args.clean c.checkpoint-result.result _ c.checkpoint-result.ensures.notes.2)) c.into_store-store.ensures c.of-place.ensures c.checkpoint-result.ensures.notes.1).generation in
-    subst (λ n. MetLater n c.args.pass.now.generation c.checkpoint-result.result) (sym (laid_generation c.checkpoint-result.new.self c.of-place.result c.of-place.ensures) ∙ done.met) c.checkpoint-result.ensures.stale
+    let done = called _ _ _ _ t.0 given.0 _ c.in_ok-place.place c.of-place.result _ _ _ _ c.give.new.seat.me _ _ c.args.pass.now c.checkpoint-result.new.pass _ c.self.view_is (c.give.ensures.same ∙ c.take_whole_for.ensures.same) c.self.invariant.2.1 t.1 given.2 t.2 (whole c.checkpoint-result.ensures.notes.0 c.into_store-store.result c.checkpoint-result.new.self c.in_ok-place.place c.of-place.result (quiet_own _ (checkpoint_quiet (view_of c.args.pass.now) (Some (moment c.into_store-store.result).generation) c.args.clean c.checkpoint-result.result _ c.checkpoint-result.ensures.notes.2)) c.into_store-store.ensures c.of-place.ensures.laid c.of-place.ensures.bare c.checkpoint-result.ensures.notes.1).generation in
+    subst (λ n. MetLater n c.args.pass.now.generation c.checkpoint-result.result) (sym (laid_generation c.checkpoint-result.new.self c.of-place.result c.of-place.ensures.laid) ∙ done.met) c.checkpoint-result.ensures.stale
 
 pub returns-in_err-place-clause-notes : goal.returns-in_err-place-clause-notes
 returns-in_err-place-clause-notes g c =

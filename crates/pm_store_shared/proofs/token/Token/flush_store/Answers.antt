@@ -33,8 +33,8 @@ give-requires-clause-may g c =
     let is = c.in-Answered.ensures.lends in
     let quiet = flush_quiet (view_of c.args.pass.now) (Some c.in_ok-place.place.apart.generation) c.in-Answered.result is.entries is.notes in
     let moves = answered c.self.invariant.2.0 is.entries c.in_ok-place.place c.lend.new.self c.in-Some.disk c.in-Some.is (quiet_own is.entries quiet) is.grows in
-    token_may_quiet _ _ _ _ _ t.0 c.in_ok-place.place (with_disk c.lend.new.self c.in-Some.disk) c.args.pass.now c.args.pass.now is.entries _ _ _ c.self.invariant.2.1 t.1 t.2
-    (flush_free (view_of c.args.pass.now) (Some c.in_ok-place.place.apart.generation) c.in-Answered.result is.entries is.notes) quiet moves in_ t.3 refl refl (token_knows_same _ _ _ _ t.0 is.entries c.in_ok-place.place (with_disk c.lend.new.self c.in-Some.disk) _ c.args.pass.now c.args.pass.now c.self.invariant.2.1 t.2 in_ t.3 quiet refl c.in-Answered.ensures.admits)
+    token_may_quiet _ _ _ _ _ t.0 c.in_ok-place.place (with_disk c.lend.new.self c.in-Some.disk c.in_ok-place.place.making) c.args.pass.now c.args.pass.now is.entries _ _ _ c.self.invariant.2.1 t.1 t.2
+    (flush_free (view_of c.args.pass.now) (Some c.in_ok-place.place.apart.generation) c.in-Answered.result is.entries is.notes) quiet moves in_ t.3 refl refl (token_knows_same _ _ _ _ t.0 is.entries c.in_ok-place.place (with_disk c.lend.new.self c.in-Some.disk c.in_ok-place.place.making) _ c.args.pass.now c.args.pass.now c.self.invariant.2.1 t.2 in_ t.3 quiet refl c.in-Answered.ensures.admits)
 
 pub returns-in-Answered-clause-notes : goal.returns-in-Answered-clause-notes
 returns-in-Answered-clause-notes g c =
@@ -44,7 +44,7 @@ returns-in-Answered-clause-notes g c =
     let quiet = flush_quiet (view_of c.args.pass.now) (Some c.in_ok-place.place.apart.generation) c.in-Answered.result is.entries is.notes in
     let moves = answered c.self.invariant.2.0 is.entries c.in_ok-place.place c.lend.new.self c.in-Some.disk c.in-Some.is (quiet_own is.entries quiet) is.grows in
     let given = c.give.ensures.given in
-    let done = called _ _ _ _ t.0 given.0 None c.in_ok-place.place (with_disk c.lend.new.self c.in-Some.disk) _ _ _ _ c.give.new.seat.me _ _ c.args.pass.now c.args.pass.now _ c.self.view_is (c.give.ensures.same ∙ c.take_whole_for.ensures.same) c.self.invariant.2.1 t.1 given.2 t.2 moves.generation in
+    let done = called _ _ _ _ t.0 given.0 None c.in_ok-place.place (with_disk c.lend.new.self c.in-Some.disk c.in_ok-place.place.making) _ _ _ _ c.give.new.seat.me _ _ c.args.pass.now c.args.pass.now _ c.self.view_is (c.give.ensures.same ∙ c.take_whole_for.ensures.same) c.self.invariant.2.1 t.1 given.2 t.2 moves.generation in
     (given.0, done.grew, given.1)
 
 pub returns-in-Answered-clause-admits : goal.returns-in-Answered-clause-admits
@@ -55,7 +55,7 @@ returns-in-Answered-clause-admits g c =
     let quiet = flush_quiet (view_of c.args.pass.now) (Some c.in_ok-place.place.apart.generation) c.in-Answered.result is.entries is.notes in
     let moves = answered c.self.invariant.2.0 is.entries c.in_ok-place.place c.lend.new.self c.in-Some.disk c.in-Some.is (quiet_own is.entries quiet) is.grows in
     let given = c.give.ensures.given in
-    let done = called _ _ _ _ t.0 given.0 None c.in_ok-place.place (with_disk c.lend.new.self c.in-Some.disk) _ _ _ _ c.give.new.seat.me _ _ c.args.pass.now c.args.pass.now _ c.self.view_is (c.give.ensures.same ∙ c.take_whole_for.ensures.same) c.self.invariant.2.1 t.1 given.2 t.2 moves.generation in
+    let done = called _ _ _ _ t.0 given.0 None c.in_ok-place.place (with_disk c.lend.new.self c.in-Some.disk c.in_ok-place.place.making) _ _ _ _ c.give.new.seat.me _ _ c.args.pass.now c.args.pass.now _ c.self.view_is (c.give.ensures.same ∙ c.take_whole_for.ensures.same) c.self.invariant.2.1 t.1 given.2 t.2 moves.generation in
     done.among
 
 pub returns-in-Answered-clause-stale : goal.returns-in-Answered-clause-stale
@@ -69,8 +69,8 @@ returns-in-Answered-clause-learned g c =
     let quiet = flush_quiet (view_of c.args.pass.now) (Some c.in_ok-place.place.apart.generation) c.in-Answered.result is.entries is.notes in
     let moves = answered c.self.invariant.2.0 is.entries c.in_ok-place.place c.lend.new.self c.in-Some.disk c.in-Some.is (quiet_own is.entries quiet) is.grows in
     let given = c.give.ensures.given in
-    let done = called _ _ _ _ t.0 given.0 None c.in_ok-place.place (with_disk c.lend.new.self c.in-Some.disk) _ _ _ _ c.give.new.seat.me _ _ c.args.pass.now c.args.pass.now _ c.self.view_is (c.give.ensures.same ∙ c.take_whole_for.ensures.same) c.self.invariant.2.1 t.1 given.2 t.2 moves.generation in
-    flush_learns _ _ _ _ t.0 is.entries c.in_ok-place.place (with_disk c.lend.new.self c.in-Some.disk) _ _ _ _ _ None (user_of (Some c.in_ok-place.place.apart.generation) (view_of c.args.pass.now)) c.in-Answered.result c.self.view_is c.self.invariant.2.1 t.2 is.notes moves
+    let done = called _ _ _ _ t.0 given.0 None c.in_ok-place.place (with_disk c.lend.new.self c.in-Some.disk c.in_ok-place.place.making) _ _ _ _ c.give.new.seat.me _ _ c.args.pass.now c.args.pass.now _ c.self.view_is (c.give.ensures.same ∙ c.take_whole_for.ensures.same) c.self.invariant.2.1 t.1 given.2 t.2 moves.generation in
+    flush_learns _ _ _ _ t.0 is.entries c.in_ok-place.place (with_disk c.lend.new.self c.in-Some.disk c.in_ok-place.place.making) _ _ _ _ _ None (user_of (Some c.in_ok-place.place.apart.generation) (view_of c.args.pass.now)) c.in-Answered.result c.self.view_is c.self.invariant.2.1 t.2 is.notes moves
     (cause_told _ _ c.in-Answered.result (is.cause Staged c.in-Some.disk)) done.grew.first done.past
 
 pub give-requires-in-Lent-clause-may : goal.give-requires-in-Lent-clause-may
@@ -78,8 +78,8 @@ give-requires-in-Lent-clause-may g c =
     let t = c.in_ok-place.ensures.taken in
     let in_ = subst (λ m. Among c.args.pass.now m.passes) (sym c.self.view_is) c.requires.admits in
     let moves = lends c.in_ok-place.place c.lend.new.self (record { disk = c.in-Some.disk; batch = c.in-Lent.batch; generation = c.args.pass.now.generation }) c.in-Some.is c.in-Lent.ensures.lends t.3 in
-    token_may_quiet _ _ _ _ _ t.0 c.in_ok-place.place (without_disk c.lend.new.self) c.args.pass.now c.args.pass.now [] _ _ _ c.self.invariant.2.1 t.1 t.2
-    refl tt moves in_ t.3 refl refl (token_knows_same _ _ _ _ t.0 [] c.in_ok-place.place (without_disk c.lend.new.self) _ c.args.pass.now c.args.pass.now c.self.invariant.2.1 t.2 in_ t.3 tt refl c.in-Lent.ensures.admits)
+    token_may_quiet _ _ _ _ _ t.0 c.in_ok-place.place (without_disk c.lend.new.self c.in_ok-place.place.making) c.args.pass.now c.args.pass.now [] _ _ _ c.self.invariant.2.1 t.1 t.2
+    refl tt moves in_ t.3 refl refl (token_knows_same _ _ _ _ t.0 [] c.in_ok-place.place (without_disk c.lend.new.self c.in_ok-place.place.making) _ c.args.pass.now c.args.pass.now c.self.invariant.2.1 t.2 in_ t.3 tt refl c.in-Lent.ensures.admits)
 
 pub finish-requires-clause-seat : goal.finish-requires-clause-seat
 finish-requires-clause-seat g c =
@@ -91,7 +91,7 @@ finish-requires-clause-admits g c =
     let in_ = subst (λ m. Among c.args.pass.now m.passes) (sym c.self.view_is) c.requires.admits in
     let moves = lends c.in_ok-place.place c.lend.new.self (record { disk = c.in-Some.disk; batch = c.in-Lent.batch; generation = c.args.pass.now.generation }) c.in-Some.is c.in-Lent.ensures.lends t.3 in
     let given = c.give-in-Lent.ensures.given in
-    let done = called _ _ _ _ t.0 given.0 (Some (record { disk = c.in-Some.disk; batch = c.in-Lent.batch; generation = c.args.pass.now.generation })) c.in_ok-place.place (without_disk c.lend.new.self) _ _ _ _ c.give-in-Lent.new.seat.me _ _ c.args.pass.now c.args.pass.now _ c.self.view_is (c.give-in-Lent.ensures.same ∙ c.take_whole_for.ensures.same) c.self.invariant.2.1 t.1 given.2 t.2 moves.generation in
+    let done = called _ _ _ _ t.0 given.0 (Some (record { disk = c.in-Some.disk; batch = c.in-Lent.batch; generation = c.args.pass.now.generation })) c.in_ok-place.place (without_disk c.lend.new.self c.in_ok-place.place.making) _ _ _ _ c.give-in-Lent.new.seat.me _ _ c.args.pass.now c.args.pass.now _ c.self.view_is (c.give-in-Lent.ensures.same ∙ c.take_whole_for.ensures.same) c.self.invariant.2.1 t.1 given.2 t.2 moves.generation in
     done.among
 
 pub finish-requires-clause-ready : goal.finish-requires-clause-ready
@@ -105,6 +105,6 @@ returns-in-Lent-clause-notes g c =
     let in_ = subst (λ m. Among c.args.pass.now m.passes) (sym c.self.view_is) c.requires.admits in
     let moves = lends c.in_ok-place.place c.lend.new.self (record { disk = c.in-Some.disk; batch = c.in-Lent.batch; generation = c.args.pass.now.generation }) c.in-Some.is c.in-Lent.ensures.lends t.3 in
     let given = c.give-in-Lent.ensures.given in
-    let done = called _ _ _ _ t.0 given.0 (Some (record { disk = c.in-Some.disk; batch = c.in-Lent.batch; generation = c.args.pass.now.generation })) c.in_ok-place.place (without_disk c.lend.new.self) _ _ _ _ c.give-in-Lent.new.seat.me _ _ c.args.pass.now c.args.pass.now _ c.self.view_is (c.give-in-Lent.ensures.same ∙ c.take_whole_for.ensures.same) c.self.invariant.2.1 t.1 given.2 t.2 moves.generation in
+    let done = called _ _ _ _ t.0 given.0 (Some (record { disk = c.in-Some.disk; batch = c.in-Lent.batch; generation = c.args.pass.now.generation })) c.in_ok-place.place (without_disk c.lend.new.self c.in_ok-place.place.making) _ _ _ _ c.give-in-Lent.new.seat.me _ _ c.args.pass.now c.args.pass.now _ c.self.view_is (c.give-in-Lent.ensures.same ∙ c.take_whole_for.ensures.same) c.self.invariant.2.1 t.1 given.2 t.2 moves.generation in
     let rest = c.finish.ensures.notes in
     (rest.0, grew_then given.0 rest.0 _ _ _ done.grew given.1 rest.1, rest.2)

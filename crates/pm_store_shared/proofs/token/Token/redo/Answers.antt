@@ -21,34 +21,34 @@ give-requires-clause-may g c =
     let view = c.redo-result.ensures.view in
     let quiet = redo_quiet (view_of c.args.pass.now) stamp c.redo-result.result notes.0 notes.2 in
     token_may_quiet _ _ _ _ _ t.0 c.in_ok-place.place c.of-place.result c.args.pass.now c.redo-result.new.pass notes.0 _ _ _ c.self.invariant.2.1 t.1 t.2
-    (redo_free (view_of c.args.pass.now) stamp c.redo-result.result notes.0 notes.2) quiet (whole notes.0 c.into_store-store.result c.redo-result.new.self c.in_ok-place.place c.of-place.result (quiet_own notes.0 quiet) c.into_store-store.ensures c.of-place.ensures notes.1) in_ t.3 (ap (λ (v : PassView). v.pid) view) (ap (λ (v : PassView). v.generation) view)
-    (token_knows_same _ _ _ _ t.0 notes.0 c.in_ok-place.place c.of-place.result _ c.args.pass.now c.redo-result.new.pass c.self.invariant.2.1 t.2 in_ t.3 quiet view (laid_admits _ c.redo-result.new.self c.of-place.result c.of-place.ensures c.redo-result.ensures.admits))
+    (redo_free (view_of c.args.pass.now) stamp c.redo-result.result notes.0 notes.2) quiet (whole notes.0 c.into_store-store.result c.redo-result.new.self c.in_ok-place.place c.of-place.result (quiet_own notes.0 quiet) c.into_store-store.ensures c.of-place.ensures.laid c.of-place.ensures.bare notes.1) in_ t.3 (ap (λ (v : PassView). v.pid) view) (ap (λ (v : PassView). v.generation) view)
+    (token_knows_same _ _ _ _ t.0 notes.0 c.in_ok-place.place c.of-place.result _ c.args.pass.now c.redo-result.new.pass c.self.invariant.2.1 t.2 in_ t.3 quiet view (laid_admits _ c.redo-result.new.self c.of-place.result c.of-place.ensures.laid c.redo-result.ensures.admits))
 
 pub returns-clause-notes : goal.returns-clause-notes
 returns-clause-notes g c =
     let t = c.in_ok-place.ensures.taken in
     let given = c.give.ensures.given in
-    let done = called _ _ _ _ t.0 given.0 _ c.in_ok-place.place c.of-place.result _ _ _ _ c.give.new.seat.me _ _ c.args.pass.now c.redo-result.new.pass _ c.self.view_is (c.give.ensures.same ∙ c.take_whole_for.ensures.same) c.self.invariant.2.1 t.1 given.2 t.2 (whole c.redo-result.ensures.notes.0 c.into_store-store.result c.redo-result.new.self c.in_ok-place.place c.of-place.result (quiet_own _ (redo_quiet (view_of c.args.pass.now) (Some (moment c.into_store-store.result).generation) c.redo-result.result _ c.redo-result.ensures.notes.2)) c.into_store-store.ensures c.of-place.ensures c.redo-result.ensures.notes.1).generation in
+    let done = called _ _ _ _ t.0 given.0 _ c.in_ok-place.place c.of-place.result _ _ _ _ c.give.new.seat.me _ _ c.args.pass.now c.redo-result.new.pass _ c.self.view_is (c.give.ensures.same ∙ c.take_whole_for.ensures.same) c.self.invariant.2.1 t.1 given.2 t.2 (whole c.redo-result.ensures.notes.0 c.into_store-store.result c.redo-result.new.self c.in_ok-place.place c.of-place.result (quiet_own _ (redo_quiet (view_of c.args.pass.now) (Some (moment c.into_store-store.result).generation) c.redo-result.result _ c.redo-result.ensures.notes.2)) c.into_store-store.ensures c.of-place.ensures.laid c.of-place.ensures.bare c.redo-result.ensures.notes.1).generation in
     (given.0, done.grew, given.1)
 
 pub returns-clause-admits : goal.returns-clause-admits
 returns-clause-admits g c =
     let t = c.in_ok-place.ensures.taken in
     let given = c.give.ensures.given in
-    (called _ _ _ _ t.0 given.0 _ c.in_ok-place.place c.of-place.result _ _ _ _ c.give.new.seat.me _ _ c.args.pass.now c.redo-result.new.pass _ c.self.view_is (c.give.ensures.same ∙ c.take_whole_for.ensures.same) c.self.invariant.2.1 t.1 given.2 t.2 (whole c.redo-result.ensures.notes.0 c.into_store-store.result c.redo-result.new.self c.in_ok-place.place c.of-place.result (quiet_own _ (redo_quiet (view_of c.args.pass.now) (Some (moment c.into_store-store.result).generation) c.redo-result.result _ c.redo-result.ensures.notes.2)) c.into_store-store.ensures c.of-place.ensures c.redo-result.ensures.notes.1).generation).among
+    (called _ _ _ _ t.0 given.0 _ c.in_ok-place.place c.of-place.result _ _ _ _ c.give.new.seat.me _ _ c.args.pass.now c.redo-result.new.pass _ c.self.view_is (c.give.ensures.same ∙ c.take_whole_for.ensures.same) c.self.invariant.2.1 t.1 given.2 t.2 (whole c.redo-result.ensures.notes.0 c.into_store-store.result c.redo-result.new.self c.in_ok-place.place c.of-place.result (quiet_own _ (redo_quiet (view_of c.args.pass.now) (Some (moment c.into_store-store.result).generation) c.redo-result.result _ c.redo-result.ensures.notes.2)) c.into_store-store.ensures c.of-place.ensures.laid c.of-place.ensures.bare c.redo-result.ensures.notes.1).generation).among
 
 pub returns-clause-stale : goal.returns-clause-stale
 returns-clause-stale g c =
     let t = c.in_ok-place.ensures.taken in
     let given = c.give.ensures.given in
-    let done = called _ _ _ _ t.0 given.0 _ c.in_ok-place.place c.of-place.result _ _ _ _ c.give.new.seat.me _ _ c.args.pass.now c.redo-result.new.pass _ c.self.view_is (c.give.ensures.same ∙ c.take_whole_for.ensures.same) c.self.invariant.2.1 t.1 given.2 t.2 (whole c.redo-result.ensures.notes.0 c.into_store-store.result c.redo-result.new.self c.in_ok-place.place c.of-place.result (quiet_own _ (redo_quiet (view_of c.args.pass.now) (Some (moment c.into_store-store.result).generation) c.redo-result.result _ c.redo-result.ensures.notes.2)) c.into_store-store.ensures c.of-place.ensures c.redo-result.ensures.notes.1).generation in
-    subst (λ n. MetLater n c.args.pass.now.generation c.redo-result.result) (sym (laid_generation c.redo-result.new.self c.of-place.result c.of-place.ensures) ∙ done.met) c.redo-result.ensures.stale
+    let done = called _ _ _ _ t.0 given.0 _ c.in_ok-place.place c.of-place.result _ _ _ _ c.give.new.seat.me _ _ c.args.pass.now c.redo-result.new.pass _ c.self.view_is (c.give.ensures.same ∙ c.take_whole_for.ensures.same) c.self.invariant.2.1 t.1 given.2 t.2 (whole c.redo-result.ensures.notes.0 c.into_store-store.result c.redo-result.new.self c.in_ok-place.place c.of-place.result (quiet_own _ (redo_quiet (view_of c.args.pass.now) (Some (moment c.into_store-store.result).generation) c.redo-result.result _ c.redo-result.ensures.notes.2)) c.into_store-store.ensures c.of-place.ensures.laid c.of-place.ensures.bare c.redo-result.ensures.notes.1).generation in
+    subst (λ n. MetLater n c.args.pass.now.generation c.redo-result.result) (sym (laid_generation c.redo-result.new.self c.of-place.result c.of-place.ensures.laid) ∙ done.met) c.redo-result.ensures.stale
 
 pub returns-clause-learned : goal.returns-clause-learned
 returns-clause-learned g c =
     let t = c.in_ok-place.ensures.taken in
     let given = c.give.ensures.given in
-    let done = called _ _ _ _ t.0 given.0 _ c.in_ok-place.place c.of-place.result _ _ _ _ c.give.new.seat.me _ _ c.args.pass.now c.redo-result.new.pass _ c.self.view_is (c.give.ensures.same ∙ c.take_whole_for.ensures.same) c.self.invariant.2.1 t.1 given.2 t.2 (whole c.redo-result.ensures.notes.0 c.into_store-store.result c.redo-result.new.self c.in_ok-place.place c.of-place.result (quiet_own _ (redo_quiet (view_of c.args.pass.now) (Some (moment c.into_store-store.result).generation) c.redo-result.result _ c.redo-result.ensures.notes.2)) c.into_store-store.ensures c.of-place.ensures c.redo-result.ensures.notes.1).generation in
+    let done = called _ _ _ _ t.0 given.0 _ c.in_ok-place.place c.of-place.result _ _ _ _ c.give.new.seat.me _ _ c.args.pass.now c.redo-result.new.pass _ c.self.view_is (c.give.ensures.same ∙ c.take_whole_for.ensures.same) c.self.invariant.2.1 t.1 given.2 t.2 (whole c.redo-result.ensures.notes.0 c.into_store-store.result c.redo-result.new.self c.in_ok-place.place c.of-place.result (quiet_own _ (redo_quiet (view_of c.args.pass.now) (Some (moment c.into_store-store.result).generation) c.redo-result.result _ c.redo-result.ensures.notes.2)) c.into_store-store.ensures c.of-place.ensures.laid c.of-place.ensures.bare c.redo-result.ensures.notes.1).generation in
     redo_learns _ _ _ _ t.0 c.into_store-store.result c.in_ok-place.place _ _ _ _ _ c.redo-result.result c.self.view_is c.self.invariant.2.1 t.2 c.into_store-store.ensures c.redo-result.ensures.reason done.grew.first done.past
 
 pub returns-in_err-place-clause-notes : goal.returns-in_err-place-clause-notes
