@@ -22,8 +22,14 @@ const PAUSE_MS: u64 = 10;
 /// The same of a child that rests.
 const REST_MS: u64 = 60_000;
 
-/// How long a brief pause is, in milliseconds.
-const BRIEF_MS: u64 = 1;
+/// How long a brief pause is at least and at most, in microseconds.
+const BRIEF_US: u64 = 1000;
+
+const LONGEST_BRIEF_US: u64 = 50_000;
+
+/// How many brief pauses in a row are as long as the work before them asks for. Those after them are the shortest, so that who makes
+/// them comes to an end.
+const LONG_BRIEFS: u64 = 64;
 
 const LISTENER: Token = Token(0);
 
@@ -32,7 +38,8 @@ const DOOR: Token = Token(1);
 /// The time since a start, in milliseconds, by a clock of the system that never goes back. The supervisor's pauses end by
 /// a connection or at the door, and it calls the children. The pauses of a child's, made by `another`, end by a call of the
 /// child of its slot, and a ring of it goes to the door. A child that rests, in one of the first slots, has nothing to do until
-/// it is called: its pauses are twice as long each time, up to a minute, and short again after a call.
+/// it is called: its pauses are twice as long each time, up to a minute, and short again after a call. A child's brief pause is
+/// one and a half times as long as it worked since the one before, so that others get more than half of the time.
 #[derive(Drop)]
 pub struct ServerClock<R> {
     start: Instant,
@@ -61,6 +68,50 @@ struct Pauses {
     // How long the next pause is at most, and how long any is, in milliseconds.
     next_ms: AtomicU64,
     longest_ms: u64,
+    briefs: Briefs,
+}
+
+// The brief pauses of a child since its last pause of another kind.
+#[derive(Drop)]
+struct Briefs {
+    count: AtomicU64,
+    // When the last pause of any kind ended, in microseconds since the start.
+    ended_us: AtomicU64,
+}
+
+impl Briefs {
+    fn new() -> Briefs {
+        Briefs {
+            count: AtomicU64::new(0),
+            ended_us: AtomicU64::new(0),
+        }
+    }
+
+    // A pause of another kind has ended.
+    fn begin_anew<R: time::Clock>(&self, rt: &R, start: &Instant) {
+        self.count.store(0, Ordering::SeqCst);
+        self.ended_us.store(passed_us(rt, start), Ordering::SeqCst);
+    }
+
+    fn pause<R: Wait + time::Clock>(&self, rt: &R, start: &Instant) {
+        let count = self.count.fetch_add(1, Ordering::SeqCst);
+        let worked_us = passed_us(rt, start).saturating_sub(self.ended_us.load(Ordering::SeqCst));
+        let us = if count < LONG_BRIEFS {
+            (worked_us.saturating_mul(3) / 2).clamp(BRIEF_US, LONGEST_BRIEF_US)
+        } else {
+            BRIEF_US
+        };
+        thread::sleep(rt, Duration::from_micros(us));
+        self.ended_us.store(passed_us(rt, start), Ordering::SeqCst);
+    }
+}
+
+// How many microseconds have passed since the start, as far as the clock tells.
+fn passed_us<R: time::Clock>(rt: &R, start: &Instant) -> u64 {
+    match start.elapsed(rt) {
+        Ok(passed) => u64::try_from(passed.as_micros()).unwrap_or(u64::MAX),
+        Err(_) => 0,
+    }
 }
 
 impl Pauses {
@@ -70,6 +121,7 @@ impl Pauses {
             heard: AtomicU64::new(bells.calls(slot)),
             next_ms: AtomicU64::new(PAUSE_MS),
             longest_ms,
+            briefs: Briefs::new(),
         }
     }
 
@@ -145,13 +197,19 @@ impl<R: Wait + time::Clock + Copy + Drop> Clock for ServerClock<R> {
                 let Door { poll, events } = &mut *door;
                 let _ = poll.poll(events, Some(Duration::from_millis(TICK_MS)));
             }
-            Side::Child(pauses) => pauses.pause(&self.rt, &self.bells),
+            Side::Child(pauses) => {
+                pauses.pause(&self.rt, &self.bells);
+                pauses.briefs.begin_anew(&self.rt, &self.start);
+            }
         }
     }
 
     // No call ends it, and it doesn't count among the pauses.
     fn pause_briefly(&self) {
-        thread::sleep(&self.rt, Duration::from_millis(BRIEF_MS));
+        match &self.side {
+            Side::Supervisor(_) => thread::sleep(&self.rt, Duration::from_micros(BRIEF_US)),
+            Side::Child(pauses) => pauses.briefs.pause(&self.rt, &self.start),
+        }
     }
 
     // The supervisor's clock was made from none.
