@@ -2,3 +2,4 @@ pub mod Drives
 pub mod GateBoards
 pub mod GatePosts
 pub mod LatchBoards
+pub mod Counters

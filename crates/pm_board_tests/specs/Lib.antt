@@ -1,3 +1,4 @@
 pub mod Drive
 pub mod GateChildren
 pub mod LatchChildren
+pub mod TwoCounters

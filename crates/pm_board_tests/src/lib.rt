@@ -1,5 +1,5 @@
 //! Tests of the board's public calls: one slot, driven from a roster and from a worker's thread, and a board of as many slots as
-//! there may be; of its gate, and of its latches.
+//! there may be; of its gate, and of its latches; and of a table of two parts.
 #![tactic(auto)]
 
 #[cfg(test)]
@@ -10,3 +10,6 @@ mod latch;
 mod notes;
 #[cfg(test)]
 mod one_slot;
+mod second;
+#[cfg(test)]
+mod two_parts;

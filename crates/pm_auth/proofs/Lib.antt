@@ -1,0 +1,7 @@
+pub mod AuthLaws
+mod Cutting
+mod Finding
+mod Listing
+mod RuleWords
+mod SecretWords
+mod Messages

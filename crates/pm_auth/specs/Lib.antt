@@ -1,0 +1,10 @@
+pub mod Base64
+pub mod Cuts
+pub mod Words
+pub mod Kept
+pub mod Secrets
+pub mod Rules
+pub mod Access
+pub mod Scram
+pub mod Served
+pub mod Laws
