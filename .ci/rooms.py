@@ -83,9 +83,12 @@ def arrows():
 
 
 def picture():
-    """The rooms and their arrows, without those that follow from others. Of two that are opposite the one of fewer crates is dotted."""
+    """The rooms and their arrows, without those that follow from others. Of two that are opposite the one of fewer crates is dotted, and
+    of as many the one whose crates begin later in crates.txt."""
     all_of = arrows()
-    dotted = {ends for ends in all_of if len(all_of[ends]) < len(all_of.get(ends[::-1], []))}
+    order = list(uses_of_crates())
+    weight = {ends: (len(pairs), -order.index(pairs[0][0])) for ends, pairs in all_of.items()}
+    dotted = {ends for ends in all_of if ends[::-1] in weight and weight[ends] < weight[ends[::-1]]}
     below = {name: {lower for upper, lower in all_of.keys() - dotted if upper == name} for name in rooms()}
     try:
         order = list(graphlib.TopologicalSorter(below).static_order())

@@ -41,7 +41,13 @@ parameter() {
     printf '%s\0%s\0' "$1" "$2"
 }
 
-startup() { bytes 00 00 00 12 00 03 00 00 75 73 65 72 00 61 6e 6e 00 00; }
+# The startup packet of this user, or of ann.
+startup() {
+    local user=${1:-ann}
+    word $((${#user} + 15))
+    bytes 00 03 00 00
+    printf 'user\0%s\0\0' "$user"
+}
 query() { message Q "$1"; }
 terminate() { bytes 58 00 00 00 04; }
 ready() { bytes 5a 00 00 00 05 49; }

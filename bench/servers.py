@@ -1,4 +1,4 @@
-"""The servers that bench/serve, bench/beside and bench/checkpoint_stall measure, and a client's connection to one, over 127.0.0.1: ours,
+"""The servers that bench/serve, bench/many, bench/beside and bench/checkpoint_stall measure, and a client's connection to one, over 127.0.0.1: ours,
 and beside it PostgreSQL where that is installed (its own cluster, by a user that isn't root, with fsync and synchronous_commit on)."""
 import glob, os, pwd, re, shutil, signal, socket, struct, subprocess, sys, time
 
@@ -16,17 +16,19 @@ def query(text):
     return b"Q" + struct.pack(">I", len(text) + 5) + text.encode() + b"\0"
 
 
-PACKET = b"\0\0\0\x24\0\3\0\0user\0ann\0database\0postgres\0\0"
+def packet(user):
+    text = f"user\0{user}\0database\0postgres\0\0".encode()
+    return struct.pack(">II", len(text) + 8, 196608) + text
 
 
 class Line:
     """A connection of a client."""
 
-    def __init__(self, port):
+    def __init__(self, port, user="ann"):
         self.socket = socket.create_connection(("127.0.0.1", port), timeout=60)
         self.stream = self.socket.makefile("rb")
         self.pid = None
-        self.socket.sendall(PACKET)
+        self.socket.sendall(packet(user))
         self.hear()
 
     def hear(self):
@@ -71,8 +73,9 @@ class Server:
                 return time.perf_counter()
         sys.exit(f"the server ended without: {text}")
 
-    def start(self):
-        """Seconds up to the line that tells that it is ready."""
+    def start(self, connections=20):
+        """Seconds up to the line that tells that it is ready. There may be so many connections: PostgreSQL has 200 of them."""
+        self.connections = connections
         started = time.perf_counter()
         self.process = subprocess.Popen(
             self.words(), stdin=subprocess.PIPE, stderr=subprocess.PIPE, text=True, bufsize=1, start_new_session=True
@@ -104,10 +107,22 @@ class Server:
         """The same of clients that are alone."""
         return self.told_by(self.ask_by(kind, count, seconds, first))
 
-    def crash(self):
-        """A child is killed while 20 sessions idle: seconds from its end, as the log tells it, up to `ready`, and from the order
-        up to the greeting of the next connection."""
-        idle = [Line(self.port) for _ in range(20)]
+    def idle(self, count):
+        """So many sessions. Those that were closed before may still have their places for a moment."""
+        lines, end = [], time.monotonic() + 10
+        while len(lines) < count:
+            try:
+                lines.append(Line(self.port))
+            except ConnectionError as error:
+                if "53300" not in str(error) or time.monotonic() > end:
+                    raise
+                time.sleep(0.01)
+        return lines
+
+    def crash(self, count=20):
+        """A child is killed while so many sessions idle: seconds from its end, as the log tells it, up to `ready`, and from the
+        order up to the greeting of the next connection."""
+        idle = self.idle(count)
         asked = time.perf_counter()
         self.kill(idle[0].pid)
         ended = self.wait_for(self.killed)
@@ -123,14 +138,19 @@ class Server:
             line.close()
         return ready - ended, greeted - asked
 
-    def memory(self):
-        """Kilobytes of memory of the server with all its processes while 20 sessions idle, shared pages counted once."""
-        idle = [Line(self.port) for _ in range(20)]
-        time.sleep(0.5)
+    def held(self):
+        """Kilobytes of memory of the server with all its processes, shared pages counted once."""
         held = 0
         for process in [self.process.pid] + self.children():
             with open(f"/proc/{process}/smaps_rollup", encoding="utf-8") as file:
                 held += int(re.search(r"^Pss: +(\d+) kB", file.read(), re.M).group(1))
+        return held
+
+    def memory(self, count=20):
+        """The same while so many sessions idle."""
+        idle = self.idle(count)
+        time.sleep(0.5)
+        held = self.held()
         for line in idle:
             line.close()
         return held
@@ -162,14 +182,15 @@ class Ours(Server):
 
     def __init__(self, work, program, name=name):
         super().__init__(work)
-        self.program, self.name = program, name
+        self.program, self.name, self.options = program, name, []
 
     def make(self):
         shutil.rmtree(f"{self.work}/ours", ignore_errors=True)
         subprocess.run([self.program, "initdb", "--data", f"{self.work}/ours"], check=True, stdout=subprocess.DEVNULL)
 
     def words(self):
-        return [self.program, "serve", "--data", f"{self.work}/ours", "--port", str(self.port)]
+        words = [self.program, "serve", "--data", f"{self.work}/ours", "--port", str(self.port)]
+        return words + ["--max-connections", str(self.connections), *self.options]
 
     def tell(self, line):
         self.process.stdin.write(line + "\n")
@@ -207,7 +228,7 @@ class Theirs(Server):
 
     def words(self):
         settings = {"listen_addresses": "127.0.0.1", "port": self.port, "unix_socket_directories": "", "fsync": "on"}
-        settings |= {"synchronous_commit": "on", "max_connections": 64, "lc_messages": "C"}
+        settings |= {"synchronous_commit": "on", "max_connections": 200, "lc_messages": "C"}
         return self.by_user(
             [f"{postgres}/postgres", "-D", f"{self.work}/theirs/data"] + [f"-c{name}={value}" for name, value in settings.items()]
         )

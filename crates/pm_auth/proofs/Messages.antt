@@ -39,7 +39,7 @@ is_bare bare named name rest nonce front cut is_said nonce_is = record {
 pub never : {P : Type 0} → (P → IsTrue false) → ¬ P
 never to = λ p. let untrue : false ≡ true = to p in absurd (cc)
 
--- two headers in front of the same message
+-- two headers before the same message
 same_bare : (one other : Binding) (bare bare' : List ℕ) → header one ++ bare ≡ header other ++ bare' → bare ≡ bare'
 same_bare Unsupported Unsupported bare bare' e = cc
 same_bare Unsupported Unoffered bare bare' e = cc

@@ -41,7 +41,7 @@ pub record SecretsSay (words : List (List ℕ)) (secrets : List Secret) : Type 0
   pub say : AllZip SaysSecret words secrets
   pub distinct : IsDistinct is_same_user secrets
 
--- The word at this place says a secret of a user who has one by the words in front of it.
+-- The word at this place says a secret of a user who has one by the words before it.
 pub record Repeats (words : List (List ℕ)) (index : ℕ) : Type 0 where
   pub before : List Secret
   pub word : List ℕ

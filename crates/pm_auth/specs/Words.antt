@@ -1,7 +1,7 @@
 -- Words that say something each.
 use Rattle.std.specs.Prelude.{◌≡◌, ℕ, List, slice_get, take, Some}
 
--- The first word that doesn't fit says nothing of its kind: those in front of it fit, as saying these.
+-- The first word that doesn't fit says nothing of its kind: those before it fit, as saying these.
 pub record IsFirstOdd {X : Type 0} (Fit : List (List ℕ) → List X → Type 0) (Says : List ℕ → X → Type 0) (words : List (List ℕ)) (index : ℕ) : Type 0 where
   pub before : List X
   pub word : List ℕ

@@ -3,7 +3,7 @@
 ghost use Rattle.std.specs.Prelude.{◌≡◌, ◌==◌, ◌++◌, ◌<◌, ℕ, List, IfSome, IfNone, position};
 ghost use Rattle.pm_auth.specs.Cuts.{IsCut, IsCutAt, IsFreeOf};
 
-/// The text in front of the first such character, and the text after it.
+/// The text before the first such character, and the text after it.
 pub fn cut(text: &str, at: char) -> Option<(&str, &str)>
     requires { at < 128 }
     ensures found { IfSome result (λ parts. IsCut at text.now parts.0.now parts.1.now) }
@@ -12,7 +12,7 @@ pub fn cut(text: &str, at: char) -> Option<(&str, &str)>
     text.split_once(at)
 }
 
-/// The bytes in front of the first such byte, and the bytes after it.
+/// The bytes before the first such byte, and the bytes after it.
 pub fn cut_bytes(bytes: &[u8], at: u8) -> Option<(&[u8], &[u8])>
     ensures found { IfSome result (λ parts. IsCut at bytes.now parts.0.now parts.1.now) }
     ensures none { IfNone result (IsFreeOf at bytes.now) }
@@ -28,7 +28,7 @@ fn place_of(bytes: &[u8], at: u8) -> Option<usize>
     bytes.iter().position(|byte| *byte == at)
 }
 
-/// So many bytes in front of this byte, and the bytes after it, if it stands there.
+/// So many bytes before this byte, and the bytes after it, if it stands there.
 pub fn cut_after(bytes: &[u8], count: usize, at: u8) -> Option<(&[u8], &[u8])>
     ensures found { IfSome result (λ parts. IsCutAt count at bytes.now parts.0.now parts.1.now) }
     ensures none { IfNone result ((front rest : List ℕ) → ¬ IsCutAt count at bytes.now front rest) }

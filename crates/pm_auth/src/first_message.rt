@@ -62,7 +62,7 @@ fn binding_in(message: &[u8]) -> Option<(Binding, &[u8])>
     Some((Binding::Unoffered, bare))
 }
 
-// The client's nonce. The name in front of it isn't looked at.
+// The client's nonce. The name before it isn't looked at.
 fn nonce_in(bare: &[u8]) -> Option<&[u8]>
     ensures found { IfSome result (λ nonce. IsBare bare.now nonce.now) }
     ensures none { IfNone result ((nonce : List ℕ) → ¬ IsBare bare.now nonce) }

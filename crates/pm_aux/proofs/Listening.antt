@@ -1,6 +1,6 @@
 -- What a child was told, from one moment to the next.
-use Rattle.std.{proofs.Common.{◌≡◌, ℕ, ◌+◌, ◌≤◌, Option, None, Some, IfSome, Result, refl, ◌∙◌, ap, arith}, specs.Option.option_map}
-use Rattle.pm_child_life.{specs.{declared.life.GateNo.GateNo, Life.{Told, nothing_told, met_at_gate, IsUntried}, Attention.{Attention, IsAttentive, HasAsked, Hears}}, proofs.AttentionLaws.{asked_none, asked_then, asked_fewer}}
+use Rattle.std.{proofs.Common.{◌≡◌, ℕ, ◌+◌, ◌≤◌, false, Option, None, Some, IfSome, Result, refl, sym, ◌∙◌, ap, subst, arith}, specs.Option.option_map}
+use Rattle.pm_child_life.{specs.{declared.{life.GateNo.GateNo, standing.Standing.Standing}, Life.{Child, Told, nothing_told, attempt, met_at_gate, IsUntouched, IsUntried}, Attention.{Attention, attention, IsAttentive, HasAsked, Hears}}, proofs.AttentionLaws.{asked_none, asked_then, asked_fewer, attention_still}}
 use Rattle.pm_aux.specs.Signals.{Listens}
 
 pub listens_none : (at : Attention) → IsAttentive at → Listens 0 at at
@@ -23,11 +23,17 @@ heard times a b hears attentive = record { asked = hears.asked; child = hears.ch
 pub listens_more : (a b c : Attention) → Listens 0 a b → Hears 1 b c → IsAttentive c → Listens 0 a c
 listens_more a b c one hears attentive = listens_fewer 0 1 a c (listens_both 0 1 a b c one (heard 1 b c hears attentive))
 
+-- a call of the store after that
+pub listens_still : (times : ℕ) (before : Attention) (child_before child_now : Child) (told_before told_now : Option Told) (standing : Standing) → IsUntouched child_before child_now told_before told_now
+    → Listens times before (attention told_before child_before standing) → Listens times before (attention told_now child_now standing)
+listens_still times before child_before child_now told_before told_now standing same listens =
+    subst (λ (at : Attention). Listens times before at) (sym (attention_still child_before child_now told_before told_now standing same)) listens
+
 -- ---- at the start and at the gate
 
 -- it has asked once at least, and this is what it has met at the gate
 abbrev pub Tells : Option (Result ℕ GateNo) → Option Told → Type 0
-Tells gate told = IfSome told (λ t. (1 ≤ t.asked) × (t.met ≡ gate))
+Tells gate told = IfSome told (λ t. (1 ≤ t.asked) × (t.met ≡ option_map (attempt false) gate))
 
 -- a child that has just started, after its first ask
 pub asked_first : (before now : Option Told) → IfSome before (λ t. t ≡ nothing_told) → HasAsked 1 before now → Tells None now
@@ -41,7 +47,7 @@ pub first_untried : (told : Option Told) → Tells None told → IsUntried told
 first_untried None tells = tt
 first_untried (Some told) tells = tells.1
 
-pub met_gate : (answer : Result ℕ GateNo) (before now : Option Told) → now ≡ option_map (met_at_gate answer) before → Tells None before → Tells (Some answer) now
+pub met_gate : (answer : Result ℕ GateNo) (before now : Option Told) → now ≡ option_map (met_at_gate (attempt false answer)) before → Tells None before → Tells (Some answer) now
 met_gate answer None now is tells = rw is tt
 met_gate answer (Some before) now is tells = rw is (tells.0, refl)
 
@@ -54,6 +60,6 @@ pub tells_asked : (gate : Option (Result ℕ GateNo)) (told : Option Told) → T
 tells_asked gate None tells = tt
 tells_asked gate (Some told) tells = tells.0
 
-pub tells_met : (gate : Option (Result ℕ GateNo)) (told : Option Told) → Tells gate told → IfSome told (λ t. t.met ≡ gate)
+pub tells_met : (gate : Option (Result ℕ GateNo)) (told : Option Told) → Tells gate told → IfSome told (λ t. t.met ≡ option_map (attempt false) gate)
 tells_met gate None tells = tt
 tells_met gate (Some told) tells = tells.1

@@ -1,7 +1,7 @@
 -- What a child noted, put together from what the store's calls note.
 use Rattle.std.proofs.{Common.{◌≡◌, ℕ, true, false, List, [], ◌∷◌, ◌++◌, All, Option, Some, Ok, Err, refl, sym, ◌∙◌, ap, subst, arith}, lemmas.List.{append-nil, Elements.{All-nil, All-cons, All-append}}}
 use Rattle.pm_exit.specs.declared.child.Kind.{Kind}
-use Rattle.pm_query.{specs.{declared.{book.BookEntry.{BookEntry, TheVariants.{Attached, CheckpointEnded}}, store.{StoreNo.StoreNo, Stepping.{Stepping, TheVariants.{More, Done, Skipped, NotDue}}}}, Calls.{DiskFact, unread_for, LearnsReason, User, newcomer, EnterNotes, CheckpointNotes, StepNotes, MetAnother, MetLater}}, proofs.NotedLaws.{GoesInTurn, behind_none}}
+use Rattle.pm_query.{specs.{declared.{book.BookEntry.{BookEntry, TheVariants.{Attached, CheckpointEnded}}, store.{StoreNo.StoreNo, Stepping.{Stepping, TheVariants.{More, Done, Skipped, NotDue}}}}, Calls.{DiskFact, unread_for, LearnsReason, User, newcomer, EnterNotes, CheckpointNotes, StepNotes, MetAnother, MetLater}}, proofs.NotedLaws.{GoesInTurn}}
 use Rattle.pm_query.specs.declared.store.StoreNo.TheVariants as stores
 use Rattle.pm_aux.specs.{declared.cause.AuxiliaryEnd.{AuxiliaryEnd, TheVariants.{Redone, Flushed, Closed, LeftOut, Refused, TurnedAway, ToldToTerminate, ToldToQuit, Killed}}, Ends.{fault_by, lets_go, IsMetBehind, LearnsWhy}, Work.{IsPassing, ClosesBy, Checkpoints, Does, HasWorked, HasEntered, LeavesIf}}
 
@@ -80,13 +80,7 @@ learned_outside P learned user refusal noted notes fault is =
 pub learned_still : (before now : DiskFact → Type 0) (refusal : Option StoreNo) → ((fact : DiskFact) → before fact → now fact) → LearnsWhy before refusal → LearnsWhy now refusal
 learned_still before now refusal keeps learns fault is = keeps (unread_for fault) (learns fault is)
 
--- ---- under the same child
-
--- nothing, and then what a call noted under this child
-pub behind_as : {S : Type 0} (notes : List BookEntry → S → S → Type 0) (P : User → List BookEntry → Type 0) (who user : User) (before between now : S) → GoesInTurn notes → who ≡ user → notes [] before between
-    → (entries : List BookEntry) × notes entries between now × P who entries → (entries : List BookEntry) × notes entries before now × P user entries
-behind_as notes P who user before between now in_turn same none call =
-    behind_none notes (P user) before between now in_turn none (call.0, call.1, subst (λ (u : User). P u call.0) same call.2)
+-- ---- an entering
 
 -- a refused entering, whoever was to be let in
 pub kept_out : (P : Type 0) (user : User) (refusal : StoreNo) (noted : List BookEntry) → EnterNotes {P = P} user (Err refusal) noted → EnterNotes {P = Unit {0}} user (Err refusal) noted

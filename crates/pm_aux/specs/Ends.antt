@@ -1,10 +1,10 @@
 -- How a child ends that serves no connection, by its cause.
-use Rattle.std.specs.Prelude.{◌≡◌, ◌≢◌, ℕ, Bool, true, false, if◌then◌else◌, Option, None, Some, Result, Ok, Err}
+use Rattle.std.specs.Prelude.{◌≡◌, ◌≢◌, ℕ, Bool, true, false, if◌then◌else◌, Option, None, Some, Result, Ok}
 use Rattle.pm_exit.specs.declared.child.Status.{Status, TheVariants.{Code, Signal}}
 use Rattle.pm_child_life.specs.declared.life.GateNo.{GateNo}
 use Rattle.pm_query.specs.{pm_record.declared.fault.RedoFault.RedoFault, declared.store.StoreNo.StoreNo, Calls.{DiskFact, unread_for}}
 use Rattle.pm_query.specs.declared.store.StoreNo.TheVariants as stores
-use Rattle.pm_aux.specs.declared.{aux_done.AuxDone.AuxDone, cause.AuxiliaryEnd.{AuxiliaryEnd, TheVariants.{Redone, Flushed, Closed, LeftOut, Refused, TurnedAway, ToldToTerminate, ToldToQuit, Killed}}}
+use Rattle.pm_aux.specs.declared.{aux_done.AuxDone.AuxDone, cause.AuxiliaryEnd.{AuxiliaryEnd, TheVariants.{Redone, Refused, TurnedAway, ToldToTerminate, ToldToQuit, Killed}}}
 
 -- after such a refusal what is shared may be half changed, or is another generation's
 abbrev pub status_refused : StoreNo → Status

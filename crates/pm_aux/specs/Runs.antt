@@ -1,8 +1,8 @@
 -- A run of a child that serves no connection, from its start to its end.
-use Rattle.std.specs.Prelude.{◌≡◌, ℕ, ◌≤◌, List, [], Option, None, Some, IfSome, Result, Ok, Err}
+use Rattle.std.specs.Prelude.{◌≡◌, ℕ, ◌≤◌, false, List, [], Option, None, Some, IfSome, Result, Ok, Err, option_map}
 use Rattle.pm_exit.specs.declared.child.Kind.{Kind}
 use Rattle.pm_exit.specs.declared.child.Kind.TheVariants as kinds
-use Rattle.pm_child_life.specs.{declared.life.GateNo.GateNo, Life.{Child, Told, Checkpoint}, Attention.was_given}
+use Rattle.pm_child_life.specs.{declared.life.GateNo.GateNo, Life.{Child, Told, Checkpoint, attempt}, Attention.was_given}
 use Rattle.pm_query.specs.{declared.{book.BookEntry.BookEntry, store.StoreNo.TheVariants.NoMemory}, Calls.User}
 use Rattle.pm_aux.specs.{declared.{aux_done.AuxDone.AuxDone, cause.AuxiliaryEnd.{AuxiliaryEnd, TheVariants.{Refused, TurnedAway, ToldToTerminate}}}, Ends.{done_by, attached_behind}, Signals.{IsToldTo, EndsAtOnce, HeedsTold}, Work.NotesInside}
 
@@ -54,6 +54,6 @@ pub record IsRunOf (kind : Kind) (who : Runner) (end : End) (noted : List BookEn
   pub heeds : IfSome end.told (HeedsTold kind cause)
   pub short : cause ≡ Refused NoMemory → MayBeShort kind end.told
   pub asked : IfSome end.told (λ told. 1 ≤ told.asked)
-  pub met : IfSome end.told (λ told. told.met ≡ gate)
+  pub met : IfSome end.told (λ told. told.met ≡ option_map (attempt false) gate)
   pub attached : end.attached ≡ attached_behind cause gate
   pub notes : NotesBehind kind who gate cause noted

@@ -15,40 +15,39 @@ use std::sync::Wait;
 
 /// Flushes and rests, up to its end. Told to terminate, it flushes until two flushes in a row answer the same front: after the
 /// second nothing was left.
-pub(crate) fn flush_on<R: Wait, S: Store, C: Clock, F: Life>(
+pub(crate) fn flush_on<R: Wait, W: Store + Life, C: Clock>(
     rt: &R,
-    store: &mut S,
-    pass: &mut S::Pass,
+    work: &mut W,
+    pass: &mut W::Pass,
     clock: &C,
-    life: &mut F,
     standing: &mut Standing,
 ) -> AuxiliaryEnd
-    requires admits { S.admits store.old pass.old }
-    requires attentive { IsAttentive (attention (F.told life.old) (F.child life.old) standing.old) }
-    ensures admits { S.admits store.new pass.new }
-    ensures view { S.view pass.new ≡ S.view pass.old }
-    ensures notes { (noted : List BookEntry) × S.notes noted store.old store.new
-        × Flushes (user_of (S.stamp store.old) (S.view pass.old)) result noted }
-    ensures listens { Listens 0 (attention (F.told life.old) (F.child life.old) standing.old)
-        (attention (F.told life.new) (F.child life.new) standing.new) }
+    requires admits { W.admits work.old pass.old }
+    requires attentive { IsAttentive (attention (W.told work.old) (W.child work.old) standing.old) }
+    ensures admits { W.admits work.new pass.new }
+    ensures view { W.view pass.new ≡ W.view pass.old }
+    ensures notes { (noted : List BookEntry) × W.notes noted work.old work.new
+        × Flushes (user_of (W.stamp work.old) (W.view pass.old)) result noted }
+    ensures listens { Listens 0 (attention (W.told work.old) (W.child work.old) standing.old)
+        (attention (W.told work.new) (W.child work.new) standing.new) }
     ensures ends { EndsInside Writer result standing.new }
-    ensures met { IsMetBehind (S.met store.new) (fault_by result) }
+    ensures met { IsMetBehind (W.met work.new) (fault_by result) }
 {
     let mut last = None;
     for _ in rt.forever() {
         if let Some(cause) = ends(*standing) {
             return cause;
         }
-        match store.flush(pass) {
+        match work.flush(pass) {
             Ok(front) if standing.terminate => {
                 if last == Some(front) {
                     return AuxiliaryEnd::Flushed;
                 }
                 last = Some(front);
-                listen(life, standing);
+                listen(work, standing);
             }
-            Ok(_) => rest(clock, life, standing),
-            Err(StoreNo::NoMemory) => rest(clock, life, standing),
+            Ok(_) => rest(clock, work, standing),
+            Err(StoreNo::NoMemory) => rest(clock, work, standing),
             Err(no) => return AuxiliaryEnd::Refused(no),
         }
     }

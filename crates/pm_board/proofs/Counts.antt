@@ -4,7 +4,7 @@ use Rattle.pm_facts.specs.Numbers.{sum_below, sum_put}
 use Rattle.pm_supervisor.specs.{pm_exit.declared.child.Kind.Kind, declared.Reason.Reason, Children.{is_session, is_dead_end}}
 use Rattle.pm_supervisor.specs.pm_exit.declared.child.Kind.TheVariants as kind
 use Rattle.pm_supervisor.specs.declared.Reason.TheVariants as reason
-use Rattle.pm_board.{specs.{declared.views.{Offer.Offer, PastChild.PastChild, Work.{Work, TheVariants.{Idle, Sees, Inactive, Active, Refused, Attached}}, PostView.PostView}, Words.{bit, flag}, Places.{is_auxiliary, lost}, Gate.{Gate, notice_bits, notice_of, sessions_in, open_in, notice_in, generation_in, place_of, at_gate, attached, counted, staying, AllUpTo, GateOk}, Rule.{Phase, unused, opened, offered, running, ended, collected, gathered, Does, OfLiving, Cell, put, at_put}}, proofs.Bits.{bit_small, flag_bit}}
+use Rattle.pm_board.{specs.{declared.views.{SessionLimit.SessionLimit, Offer.Offer, PastChild.PastChild, Work.{Work, TheVariants.{Idle, Sees, Inactive, Active, Refused, Attached}}, PostView.PostView}, Words.{bit, flag}, Places.{is_auxiliary, lost}, Gate.{Gate, notice_bits, notice_of, sessions_in, open_in, notice_in, generation_in, place_of, at_gate, attached, counted, staying, AllUpTo, GateOk}, Rule.{Phase, unused, opened, offered, running, ended, collected, gathered, Does, OfLiving, Cell, put, at_put}}, proofs.Bits.{bit_small, flag_bit}}
 
 pub sum_small : (n : ℕ) (f : ℕ → ℕ) → ((k : ℕ) → k < n → f k ≤ 1) → sum_below n f ≤ n
 sum_small zero f h = omega arith
@@ -126,14 +126,14 @@ module _ {D : Type 0} where
     pub notice_found : notice_in word ≡ gate.noticed
     pub generation_found : generation_in word ≡ gate.generation
 
-  pub reads : (limit n word : ℕ) (gate : Gate) (cells : ℕ → Cell D) → GateOk limit n word gate cells → ((k : ℕ) → k < n → Does (cells k).phase (cells k).post.work) → Reads n word gate cells
+  pub reads : (limit : SessionLimit) (n word : ℕ) (gate : Gate) (cells : ℕ → Cell D) → GateOk limit n word gate cells → ((k : ℕ) → k < n → Does (cells k).phase (cells k).post.work) → Reads n word gate cells
   reads limit n word gate cells ok does =
       let g : ℕ = gate.generation in
       let s : ℕ = sum_below n (λ k. counted is_session g (cells k).post) in let a : ℕ = sum_below n (λ k. counted is_auxiliary g (cells k).post) in
       let t : ℕ = sum_below n (λ k. staying is_session g (cells k).post) in
       let above : s ≤ t + n = sum_above n (λ k. counted is_session g (cells k).post) (λ k. staying is_session g (cells k).post)
       (λ k. let h : at_gate is_session (cells k).post.work ≤ attached is_session (cells k).post.work + 1 = at_gate_above is_session (cells k).post.work in let l : ℕ = lost is_session g (cells k).post.past in omega arith) in
-      let few : t ≤ limit = ok.few in let low : n ≤ 407 = ok.small.0 in let most : limit ≤ 200 = ok.small.1 in
+      let few : t ≤ limit.most = ok.few in let low : n ≤ 407 = ok.small.0 in let most : limit.most ≤ 200 = ok.small.1 in
       let once : a ≤ n = sum_small n (λ k. counted is_auxiliary g (cells k).post) (λ k l. counted_once g (cells k).phase (cells k).post (does k l) (ok.once k).at_most (ok.once k).none_before) in
       let o : ℕ = bit gate.is_open in let q : ℕ = notice_bits gate.noticed in let o_low : o < 2 = bit_small gate.is_open in let q_low : q < 4 = notice_small gate.noticed in
       let shows : word ≡ s + (4096 * a + (16777216 * o + (33554432 * q + 134217728 * g))) = ok.shows in

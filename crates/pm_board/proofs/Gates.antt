@@ -2,7 +2,7 @@
 use Rattle.std.{proofs.Common.{◌≡◌, ℕ, zero, suc, ◌+◌, ◌<◌, ◌≤◌, ◌==◌, List, [], ◌∷◌, ◌++◌, get_or, set, refl, sym, ap, ◌∙◌, subst, arith, eq-eqb, get_or-set_other}, specs.Prelude.{Bool, true, false, ◌&&◌}}
 use Rattle.pm_facts.specs.Numbers.{sum_below, sum_same, sum_zero}
 use Rattle.pm_supervisor.specs.{pm_exit.declared.child.{Kind.Kind, Status.Status}, Children.is_session}
-use Rattle.pm_board.specs.{declared.views.{Offer.Offer, PastChild.PastChild, PostNotes.PostNotes, Work.{Work, TheVariants.{Idle, Sees, Inactive, Active, Refused, Attached}}, PostView.PostView}, Words.bit, Places.{is_auxiliary, lost}, Gate.{Gate, gate_packed, at_gate, attached, counted, staying, IsCurrent, AllUpTo, InGeneration, AuxiliaryOnce, GateOk, first_gate}, Rule.{Phase, unused, offered, running, ended, OfLiving, Cell, put, at_put, idle_post}, Told.{MayEnd, post_view, with_notes, past_child}}
+use Rattle.pm_board.specs.{declared.views.{SessionLimit.SessionLimit, Offer.Offer, PastChild.PastChild, PostNotes.PostNotes, Work.{Work, TheVariants.{Idle, Sees, Inactive, Active, Refused, Attached}}, PostView.PostView}, Words.bit, Places.{is_auxiliary, lost}, Gate.{Gate, gate_packed, at_gate, attached, counted, staying, IsCurrent, AllUpTo, InGeneration, AuxiliaryOnce, GateOk, first_gate}, Rule.{Phase, unused, offered, running, ended, OfLiving, Cell, put, at_put, idle_post}, Told.{MayEnd, post_view, with_notes, past_child}}
 
 module _ {D : Type 0} where
   pub lost-append : (test : Kind → Bool) (g : ℕ) (xs : List (PastChild D)) (x : PastChild D) → lost test g (xs ++ x ∷ []) ≡ lost test g xs + bit (x.was_active && ((x.offer.generation == g) && test x.offer.kind))
@@ -14,13 +14,13 @@ module _ {D : Type 0} where
   up_to-append g (y ∷ xs) x a l = (a.0, up_to-append g xs x a.1 l)
 
   -- a post counts at the gate for what it did before
-  pub record SameCounts (limit g : ℕ) (w w' : PostView D) : Type 0 where
+  pub record SameCounts (limit : SessionLimit) (g : ℕ) (w w' : PostView D) : Type 0 where
     pub sessions : counted is_session g w' ≡ counted is_session g w
     pub auxiliaries : counted is_auxiliary g w' ≡ counted is_auxiliary g w
     pub stays : staying is_session g w' ≡ staying is_session g w
     pub current : InGeneration limit g w → InGeneration limit g w'
 
-  pub gate_moves : (limit n k word : ℕ) (words : List ℕ) (gate : Gate) (cells : ℕ → Cell D) (c : Cell D) (w : PostView D) → k < n → (cells k).post ≡ w → SameCounts limit gate.generation w c.post → AuxiliaryOnce gate.generation c
+  pub gate_moves : (limit : SessionLimit) (n k word : ℕ) (words : List ℕ) (gate : Gate) (cells : ℕ → Cell D) (c : Cell D) (w : PostView D) → k < n → (cells k).post ≡ w → SameCounts limit gate.generation w c.post → AuxiliaryOnce gate.generation c
       → GateOk limit n (get_or words n 0) gate cells → GateOk limit n (get_or (set words k word) n 0) gate (put cells k c)
   gate_moves limit n k word words gate cells c w near is same once ok =
       let g : ℕ = gate.generation in
@@ -30,7 +30,7 @@ module _ {D : Type 0} where
       record {
         shows = get_or-set_other words k n word 0 (λ e. absurd (omega arith)) ∙ (ok.shows
             ∙ (λ i. gate_packed record { generation = g; is_open = gate.is_open; noticed = gate.noticed; sessions = sym a i; auxiliaries = sym b i }));
-        few = subst (λ (z : ℕ). z ≤ limit) (sym s) ok.few;
+        few = subst (λ (z : ℕ). z ≤ limit.most) (sym s) ok.few;
         shut = λ e. s ∙ ok.shut e;
         small = ok.small;
         first = ok.first;
@@ -72,15 +72,15 @@ module _ {D : Type 0} where
   free g (Attached o h) e = absurd (cc)
 
   -- a step that no gate counts
-  pub uncounted : (limit g : ℕ) (w : PostView D) → SameCounts limit g w w
+  pub uncounted : (limit : SessionLimit) (g : ℕ) (w : PostView D) → SameCounts limit g w w
   uncounted limit g w = record { sessions = refl; auxiliaries = refl; stays = refl; current = λ z. z }
 
   -- nor one that changes a worker's notes alone
-  pub uncounted_notes : (limit g : ℕ) (w : PostView D) (notes : PostNotes) → notes.session_limit ≡ w.notes.session_limit → SameCounts limit g w (with_notes w notes)
+  pub uncounted_notes : (limit : SessionLimit) (g : ℕ) (w : PostView D) (notes : PostNotes) → notes.session_limit ≡ w.notes.session_limit → SameCounts limit g w (with_notes w notes)
   uncounted_notes limit g w notes el = record { sessions = refl; auxiliaries = refl; stays = refl; current = λ z. record { now = z.now; before = z.before; limit_is = el ∙ z.limit_is } }
 
   -- nor one in which a worker that isn't at the gate stays away from it
-  pub uncounted_by : (limit g : ℕ) (notes notes' : PostNotes) (past : List (PastChild D)) (v v' : Work D) → notes'.session_limit ≡ notes.session_limit → away v ≡ true → away v' ≡ true → SameCounts limit g (post_view notes past v) (post_view notes' past v')
+  pub uncounted_by : (limit : SessionLimit) (g : ℕ) (notes notes' : PostNotes) (past : List (PastChild D)) (v v' : Work D) → notes'.session_limit ≡ notes.session_limit → away v ≡ true → away v' ≡ true → SameCounts limit g (post_view notes past v) (post_view notes' past v')
   uncounted_by limit g notes notes' past v v' el e e' = record {
     sessions = ap (λ (z : ℕ). z + lost is_session g past) (none is_session v' e' ∙ sym (none is_session v e));
     auxiliaries = ap (λ (z : ℕ). z + lost is_auxiliary g past) (none is_auxiliary v' e' ∙ sym (none is_auxiliary v e));
@@ -99,7 +99,7 @@ module _ {D : Type 0} where
       let e : bit (test p.kind) ≡ bit (a && ((o.generation == g) && test o.kind)) =
       ap (λ (z : Offer D). bit (test z.kind)) may.0 ∙ (ap (λ (z : Bool). bit (z && test o.kind)) (sym (eq-eqb o.generation g now)) ∙ ap (λ (z : Bool). bit (z && ((o.generation == g) && test o.kind))) (sym may.1)) in (e, e)
 
-  pub ended_counts : (limit g : ℕ) (notes notes' : PostNotes) (past : List (PastChild D)) (w : Work D) (o : Offer D) (status : Status) (a : Bool) (back : D) → notes'.session_limit ≡ notes.session_limit → MayEnd w o a → o.generation ≡ g
+  pub ended_counts : (limit : SessionLimit) (g : ℕ) (notes notes' : PostNotes) (past : List (PastChild D)) (w : Work D) (o : Offer D) (status : Status) (a : Bool) (back : D) → notes'.session_limit ≡ notes.session_limit → MayEnd w o a → o.generation ≡ g
       → SameCounts limit g (post_view notes past w) (post_view notes' (past ++ past_child o status a back ∷ []) Idle)
   ended_counts limit g notes notes' past w o status a back el may now =
       let x : PastChild D = past_child o status a back in let ys : List (PastChild D) = past ++ x ∷ [] in
@@ -145,13 +145,13 @@ module _ {D : Type 0} where
   pub once_offered : (g : ℕ) (c : Cell D) (o : Offer D) (seat : ℕ) → (is_auxiliary o.kind ≡ true → lost is_auxiliary g c.post.past ≡ 0) → AuxiliaryOnce g c → AuxiliaryOnce g record { phase = offered o; seat = seat; post = c.post }
   once_offered g c o seat none once = record { at_most = once.at_most; none_before = none }
 
-  pub first_gate_ok : (limit n word : ℕ) → word ≡ 134217728 → n ≤ 407 → limit ≤ 200 → GateOk {D = D} limit n word first_gate (λ _. record { phase = unused; seat = 0; post = idle_post limit })
+  pub first_gate_ok : (limit : SessionLimit) (n word : ℕ) → word ≡ 134217728 → n ≤ 407 → limit.most ≤ 200 → GateOk {D = D} limit n word first_gate (λ _. record { phase = unused; seat = 0; post = idle_post limit })
   first_gate_ok limit n word is few most =
       let none : (F : PostView D → ℕ) → F (idle_post limit) ≡ 0 → sum_below n (λ _. F (idle_post limit)) ≡ 0 = (λ F z. sum_zero n (λ _. F (idle_post limit)) (λ _ _. z)) in
       let a = none (counted is_session 1) refl in let b = none (counted is_auxiliary 1) refl in let s = none (staying is_session 1) refl in
       record {
         shows = is ∙ (λ i. gate_packed record { generation = 1; is_open = false; noticed = first_gate.noticed; sessions = sym a i; auxiliaries = sym b i });
-        few = subst (λ (z : ℕ). z ≤ limit) (sym s) (omega arith);
+        few = subst (λ (z : ℕ). z ≤ limit.most) (sym s) (omega arith);
         shut = λ _. s;
         small = (few, most);
         first = omega arith;

@@ -1,5 +1,5 @@
 -- Each step at the gate keeps the rule.
-use Rattle.std.proofs.{Common.{◌≡◌, ℕ, zero, suc, ◌+◌, ◌-◌, ◌*◌, ◌%◌, ◌^◌, ◌<◌, ◌≤◌, List, [], ◌∷◌, ◌++◌, length, get_or, sym, refl, ap, ◌∙◌, subst, arith, get_or-set_same}, Math.Nat.{mod-eq_of_lt, zero-add}}
+use Rattle.std.proofs.{Common.{◌≡◌, ℕ, zero, suc, ◌+◌, ◌-◌, ◌*◌, ◌%◌, ◌^◌, ◌<◌, ◌≤◌, List, [], ◌∷◌, ◌++◌, length, get_or, sym, refl, inl, inr, ap, ◌∙◌, subst, arith, get_or-set_same}, Math.Nat.{mod-eq_of_lt, zero-add}}
 use native.Mathlib.Nat.{add-mod_right}
 use mathlib.Core.Logic.{dite}
 use mathlib.Core.Option.{none, some}
@@ -12,9 +12,9 @@ use Rattle.pm_supervisor.specs.{pm_exit.declared.child.{Kind.Kind, Status.TheVar
 use Rattle.pm_supervisor.specs.pm_exit.declared.child.Kind.TheVariants as kind
 use Rattle.pm_supervisor.specs.declared.Reason.TheVariants as reason
 use Rattle.pm_supervisor.specs.Shared as shared
-use Rattle.pm_child_life.specs.declared.life.GateNo.{GateNo}
+use Rattle.pm_child_life.specs.{declared.life.GateNo.{GateNo}, Life.attempt}
 use Rattle.pm_child_life.specs.declared.life.GateNo.TheVariants as gate_no
-use Rattle.pm_board.{specs.{Slots.child_slots, declared.views.{Offer.Offer, PastChild.PastChild, PostNotes.PostNotes, RosterStep.RosterStep, RosterView.RosterView, Sight.{Sight, TheVariants.{Unused, Opened, Assigned, Exited, Collected, Gathered}}, SlotView.SlotView, Work.{Work, TheVariants.{Idle, Inactive, Active, Refused, Attached}}, PostView.PostView, View.{View, TheVariants.{Postmaster, Worker}}}, Words.bit, Places.{slot_at, slot_view, SlotServes, is_auxiliary, lost, is_used, used_in}, Gate.{Gate, GateAnswers, gate_of, notice_bits, gate_packed, sessions_in, open_in, notice_in, generation_in, place_of, answer_to, gate_answer, at_gate, attached, counted, staying, IsCurrent, AllUpTo, InGeneration, AuxiliaryOnce, GateOk}, Rule.{at_put, put, Phase, unused, opened, offered, running, ended, collected, gathered, child_word, Seen, Does, OfChild, OfLiving, IsPlaced, Cell, Holds}, Latches.{NotReleased, IsAssignedBy, AnsweredBefore, doings}, History.{living, Kept}, Told.{Seated, post_view, tried, tried_by, detached, after_step, MayQuit, quit_step, ready_step, new_gate, Marks, Unmarks, Tries, BacksOut, Detaches, Quits, Readies, Resets}}, proofs.{Bits.{bit_small, packed_small}, Moves.{rebased, worker_step, word_step, word_turn, St}, Gates.{uncounted_by, gate_moves, once_still}, Counts.{sum_within, notice_small, place_is, up_to_more, none_lost, attached_within, count_moves, Reads, reads}, Latches.{at_last, answered_now, quit_is_no_release, ready_is_no_release, reset_is_no_release, hears_met, latch_here, latches_still, latches_turn}, Seats.{seats_step, seats_still}, Histories.{kept, same_history, quiet}, Passes.{is_false, lives, passes, shown_attached, quit_history, ready_history, reset_history}, Keeps.{grown, fits_for, at_phase, placed_as, owned, does_run, does_act, does_back, does_stay}}}
+use Rattle.pm_board.{specs.{Slots.child_slots, declared.views.{SessionLimit.SessionLimit, Offer.Offer, PastChild.PastChild, PostNotes.PostNotes, RosterStep.RosterStep, RosterView.RosterView, Sight.{Sight, TheVariants.{Unused, Opened, Assigned, Exited, Collected, Gathered}}, SlotView.SlotView, Work.{Work, TheVariants.{Idle, Inactive, Active, Refused, Attached}}, PostView.PostView, View.{View, TheVariants.{Postmaster, Worker}}}, Words.bit, Places.{slot_at, slot_view, SlotServes, is_auxiliary, lost, is_used, used_in}, Gate.{Gate, reserve_by, session_answer, GateAnswers, gate_of, notice_bits, gate_packed, sessions_in, open_in, notice_in, generation_in, place_of, answer_to, gate_answer, at_gate, attached, counted, staying, IsCurrent, AllUpTo, InGeneration, AuxiliaryOnce, GateOk}, Rule.{at_put, put, Phase, unused, opened, offered, running, ended, collected, gathered, child_word, Seen, Does, OfChild, OfLiving, IsPlaced, Cell, Holds}, Latches.{NotReleased, IsAssignedBy, AnsweredBefore, doings}, History.{living, Kept}, Told.{Seated, post_view, tried, tried_by, detached, after_step, MayQuit, quit_step, ready_step, new_gate, Marks, Unmarks, Tries, BacksOut, Detaches, Quits, Readies, Resets}}, proofs.{Bits.{bit_small, packed_small}, Moves.{rebased, worker_step, word_step, word_turn, St}, Gates.{uncounted_by, gate_moves, once_still}, Counts.{sum_within, notice_small, place_is, up_to_more, none_lost, attached_within, count_moves, Reads, reads}, Latches.{at_last, answered_now, quit_is_no_release, ready_is_no_release, reset_is_no_release, hears_met, latch_here, latches_still, latches_turn}, Seats.{seats_step, seats_still}, Histories.{kept, same_history, quiet}, Passes.{is_false, lives, passes, shown_attached, quit_history, ready_history, reset_history}, Keeps.{grown, fits_for, at_phase, placed_as, owned, does_run, does_act, does_back, does_stay}}}
 use Rattle.pm_board.specs.declared.views.Letter as Letter
 use Rattle.pm_board.specs.declared.views.PostStep.TheVariants as post_step
 use Rattle.pm_board.specs.declared.views.RosterStep.TheVariants as roster_step
@@ -22,64 +22,122 @@ use Rattle.pm_board.specs.declared.views.RosterStep.TheVariants as roster_step
 less : (x a y : ℕ) → x ≡ y + a → a ≤ 18446744073709551616 → x < 18446744073709551616 → (x + (2 ^ 64 - a)) % 2 ^ 64 ≡ y
 less x a y e small h = let s : x + (2 ^ 64 - a) ≡ y + 2 ^ 64 = omega arith in ap (λ (z : ℕ). z % 2 ^ 64) s ∙ (add-mod_right y (2 ^ 64) ∙ (let l : y < 2 ^ 64 = omega arith in mod-eq_of_lt l))
 
+-- what a session is answered, by what it met: an open gate, room besides the places that are kept from it, and room at all
+abbrev met_by : (most reserve word : ℕ) (is_open wanted room : Bool) → Result ℕ GateNo
+met_by most reserve word is_open wanted room =
+    if not is_open then Err (gate_no.NotReady (generation_in word))
+    else (if wanted then Ok (generation_in word)
+    else (if room then Err (gate_no.Reserved (sessions_in word)) else Err (gate_no.TooMany (sessions_in word))))
+
 -- who is let in met no notice, and a session met an open gate and room
-let_in : (b : Bool) (limit word : ℕ) (q : Option Reason) (h : ℕ) → answer_to b limit q word ≡ Ok h → (q ≡ None) × (h ≡ generation_in word) × (b ≡ true → (open_in word ≡ true) × (sessions_in word < limit))
-let_in true limit word (Some why) h e = absurd (cc)
-let_in false limit word (Some why) h e = absurd (cc)
-let_in false limit word None h e = let same : h ≡ generation_in word = cc in (refl, same, λ is. absurd (cc))
-let_in true limit word None h e = let it = go (open_in word) (nat_lt (sessions_in word) limit) e in (refl, it.2, λ _. (it.0, ltb-true (sessions_in word) limit it.1))
+let_in : (b : Bool) (most reserve word : ℕ) (q : Option Reason) (h : ℕ) → answer_to b q word (session_answer most reserve word) ≡ Ok h
+    → (q ≡ None) × (h ≡ generation_in word) × (b ≡ true → (open_in word ≡ true) × (sessions_in word + reserve < most))
+let_in true most reserve word (Some why) h e = absurd (cc)
+let_in false most reserve word (Some why) h e = absurd (cc)
+let_in false most reserve word None h e = let same : h ≡ generation_in word = cc in (refl, same, λ is. absurd (cc))
+let_in true most reserve word None h e =
+    let it = go (open_in word) (nat_lt (sessions_in word + reserve) most) (nat_lt (sessions_in word) most) e in
+    (refl, it.2, λ _. (it.0, ltb-true (sessions_in word + reserve) most it.1))
   where
-    go : (o l : Bool) → (if not o then Err (gate_no.NotReady (generation_in word)) else (if l then Ok (generation_in word) else Err (gate_no.TooMany (sessions_in word)))) ≡ Ok h → (o ≡ true) × (l ≡ true) × (h ≡ generation_in word)
-    go true true e = let same : h ≡ generation_in word = cc in (refl, refl, same)
-    go true false e = absurd (cc)
-    go false l e = absurd (cc)
+    go : (o w l : Bool) → met_by most reserve word o w l ≡ Ok h → (o ≡ true) × (w ≡ true) × (h ≡ generation_in word)
+    go true true l e = let same : h ≡ generation_in word = cc in (refl, refl, same)
+    go true false true e = absurd (cc)
+    go true false false e = absurd (cc)
+    go false w l e = absurd (cc)
 
 -- who is told of a notice met it
-refused_by : (b : Bool) (limit word : ℕ) (q : Option Reason) (h : ℕ) (why : Reason) → answer_to b limit q word ≡ Err (gate_no.Quit h why) → (q ≡ Some why) × (h ≡ generation_in word)
-refused_by true limit word (Some why') h why e = let a : why' ≡ why = cc in let b : h ≡ generation_in word = cc in (ap Some a, b)
-refused_by false limit word (Some why') h why e = let a : why' ≡ why = cc in let b : h ≡ generation_in word = cc in (ap Some a, b)
-refused_by false limit word None h why e = absurd (cc)
-refused_by true limit word None h why e = absurd (go (open_in word) (nat_lt (sessions_in word) limit) e)
+refused_by : (b : Bool) (most reserve word : ℕ) (q : Option Reason) (h : ℕ) (why : Reason)
+    → answer_to b q word (session_answer most reserve word) ≡ Err (gate_no.Quit h why) → (q ≡ Some why) × (h ≡ generation_in word)
+refused_by true most reserve word (Some why') h why e = let a : why' ≡ why = cc in let b : h ≡ generation_in word = cc in (ap Some a, b)
+refused_by false most reserve word (Some why') h why e = let a : why' ≡ why = cc in let b : h ≡ generation_in word = cc in (ap Some a, b)
+refused_by false most reserve word None h why e = absurd (cc)
+refused_by true most reserve word None h why e =
+    absurd (go (open_in word) (nat_lt (sessions_in word + reserve) most) (nat_lt (sessions_in word) most) e)
   where
-    go : (o l : Bool) → (if not o then Err (gate_no.NotReady (generation_in word)) else (if l then Ok (generation_in word) else Err (gate_no.TooMany (sessions_in word)))) ≡ Err (gate_no.Quit h why) → ⊥
-    go true true e = absurd (cc)
-    go true false e = absurd (cc)
-    go false l e = absurd (cc)
+    go : (o w l : Bool) → met_by most reserve word o w l ≡ Err (gate_no.Quit h why) → ⊥
+    go true true l e = absurd (cc)
+    go true false true e = absurd (cc)
+    go true false false e = absurd (cc)
+    go false w l e = absurd (cc)
 
 -- who is told that the gate isn't open, or of a limit that is reached, is a session that met that, and no notice
-not_ready : (b : Bool) (limit word : ℕ) (q : Option Reason) (h : ℕ) → answer_to b limit q word ≡ Err (gate_no.NotReady h) → (q ≡ None) × (h ≡ generation_in word) × (b ≡ true) × (open_in word ≡ false)
-not_ready true limit word (Some why) h e = absurd (cc)
-not_ready false limit word (Some why) h e = absurd (cc)
-not_ready false limit word None h e = absurd (cc)
-not_ready true limit word None h e = let it = go (open_in word) (nat_lt (sessions_in word) limit) e in (refl, it.1, refl, it.0)
+not_ready : (b : Bool) (most reserve word : ℕ) (q : Option Reason) (h : ℕ)
+    → answer_to b q word (session_answer most reserve word) ≡ Err (gate_no.NotReady h)
+    → (q ≡ None) × (h ≡ generation_in word) × (b ≡ true) × (open_in word ≡ false)
+not_ready true most reserve word (Some why) h e = absurd (cc)
+not_ready false most reserve word (Some why) h e = absurd (cc)
+not_ready false most reserve word None h e = absurd (cc)
+not_ready true most reserve word None h e =
+    let it = go (open_in word) (nat_lt (sessions_in word + reserve) most) (nat_lt (sessions_in word) most) e in (refl, it.1, refl, it.0)
   where
-    go : (o l : Bool) → (if not o then Err (gate_no.NotReady (generation_in word)) else (if l then Ok (generation_in word) else Err (gate_no.TooMany (sessions_in word)))) ≡ Err (gate_no.NotReady h) → (o ≡ false) × (h ≡ generation_in word)
-    go true true e = absurd (cc)
-    go true false e = absurd (cc)
-    go false l e = let same : h ≡ generation_in word = cc in (refl, same)
+    go : (o w l : Bool) → met_by most reserve word o w l ≡ Err (gate_no.NotReady h) → (o ≡ false) × (h ≡ generation_in word)
+    go true true l e = absurd (cc)
+    go true false true e = absurd (cc)
+    go true false false e = absurd (cc)
+    go false w l e = let same : h ≡ generation_in word = cc in (refl, same)
 
-too_many : (b : Bool) (limit word : ℕ) (q : Option Reason) (count : ℕ) → answer_to b limit q word ≡ Err (gate_no.TooMany count) → (q ≡ None) × (limit ≤ count) × (b ≡ true) × (open_in word ≡ true)
-too_many true limit word (Some why) count e = absurd (cc)
-too_many false limit word (Some why) count e = absurd (cc)
-too_many false limit word None count e = absurd (cc)
-too_many true limit word None count e = let it = go (open_in word) (nat_lt (sessions_in word) limit) e in
-    (refl, (let full : limit ≤ sessions_in word = ltb-false (sessions_in word) limit it.1 in let same : count ≡ sessions_in word = it.2 in omega arith), refl, it.0)
+too_many : (b : Bool) (most reserve word : ℕ) (q : Option Reason) (count : ℕ)
+    → answer_to b q word (session_answer most reserve word) ≡ Err (gate_no.TooMany count)
+    → (q ≡ None) × (most ≤ count) × (b ≡ true) × (open_in word ≡ true)
+too_many true most reserve word (Some why) count e = absurd (cc)
+too_many false most reserve word (Some why) count e = absurd (cc)
+too_many false most reserve word None count e = absurd (cc)
+too_many true most reserve word None count e =
+    let it = go (open_in word) (nat_lt (sessions_in word + reserve) most) (nat_lt (sessions_in word) most) e in
+    (refl, (let full : most ≤ sessions_in word = ltb-false (sessions_in word) most it.1 in let same : count ≡ sessions_in word = it.2 in omega arith), refl, it.0)
   where
-    go : (o l : Bool) → (if not o then Err (gate_no.NotReady (generation_in word)) else (if l then Ok (generation_in word) else Err (gate_no.TooMany (sessions_in word)))) ≡ Err (gate_no.TooMany count) → (o ≡ true) × (l ≡ false) × (count ≡ sessions_in word)
-    go true true e = absurd (cc)
-    go true false e = let same : count ≡ sessions_in word = cc in (refl, refl, same)
-    go false l e = absurd (cc)
+    go : (o w l : Bool) → met_by most reserve word o w l ≡ Err (gate_no.TooMany count) → (o ≡ true) × (l ≡ false) × (count ≡ sessions_in word)
+    go true true l e = absurd (cc)
+    go true false true e = absurd (cc)
+    go true false false e = let same : count ≡ sessions_in word = cc in (refl, refl, same)
+    go false w l e = absurd (cc)
+
+-- and who is told that the places which are left are reserved, met that
+reserved_for : (b : Bool) (most reserve word : ℕ) (q : Option Reason) (count : ℕ)
+    → answer_to b q word (session_answer most reserve word) ≡ Err (gate_no.Reserved count)
+    → (q ≡ None) × (count < most) × (most ≤ count + reserve) × (b ≡ true) × (open_in word ≡ true)
+reserved_for true most reserve word (Some why) count e = absurd (cc)
+reserved_for false most reserve word (Some why) count e = absurd (cc)
+reserved_for false most reserve word None count e = absurd (cc)
+reserved_for true most reserve word None count e =
+    let it = go (open_in word) (nat_lt (sessions_in word + reserve) most) (nat_lt (sessions_in word) most) e in
+    let room : sessions_in word < most = ltb-true (sessions_in word) most it.2 in
+    let full : most ≤ sessions_in word + reserve = ltb-false (sessions_in word + reserve) most it.1 in
+    let same : count ≡ sessions_in word = it.3 in (refl, omega arith, omega arith, refl, it.0)
+  where
+    go : (o w l : Bool) → met_by most reserve word o w l ≡ Err (gate_no.Reserved count)
+        → (o ≡ true) × (w ≡ false) × (l ≡ true) × (count ≡ sessions_in word)
+    go true true l e = absurd (cc)
+    go true false true e = let same : count ≡ sessions_in word = cc in (refl, refl, refl, same)
+    go true false false e = absurd (cc)
+    go false w l e = absurd (cc)
+
+-- the places that are kept from a child are none, or those that are reserved
+keeps_rightly : (is_ordinary : Bool) (limit : SessionLimit) → shared.IsReserve limit.reserved (reserve_by is_ordinary limit)
+keeps_rightly true limit = inr refl
+keeps_rightly false limit = inl refl
+
+-- places are kept from an ordinary child alone
+keeps_from : (is_ordinary : Bool) (limit : SessionLimit) (count : ℕ) → count < limit.most → limit.most ≤ count + reserve_by is_ordinary limit
+    → (is_ordinary ≡ true) × (limit.most ≤ count + limit.reserved)
+keeps_from true limit count room full = (refl, full)
+keeps_from false limit count room full = let nothing : reserve_by false limit ≡ 0 = refl in absurd (omega arith)
 
 -- a word answers what the gate does that it shows
-answers : (kind : Kind) (limit word : ℕ) (gate : Gate) (answer : Result ℕ GateNo) → generation_in word ≡ gate.generation → notice_in word ≡ gate.noticed → open_in word ≡ gate.is_open → gate_answer kind limit word ≡ answer → GateAnswers limit kind gate answer
-answers kind limit word gate (Ok h) of_generation of_notice of_open e = let may = let_in (is_session kind) limit word (notice_in word) h e in
+answers : (kind : Kind) (is_ordinary : Bool) (limit : SessionLimit) (word : ℕ) (gate : Gate) (answer : Result ℕ GateNo)
+    → generation_in word ≡ gate.generation → notice_in word ≡ gate.noticed → open_in word ≡ gate.is_open
+    → gate_answer kind is_ordinary limit word ≡ answer → GateAnswers limit kind gate (attempt is_ordinary answer)
+answers kind is_ordinary limit word gate (Ok h) of_generation of_notice of_open e = let may = let_in (is_session kind) limit.most (reserve_by is_ordinary limit) word (notice_in word) h e in
     (may.1 ∙ of_generation, sym of_notice ∙ may.0, λ is. sym of_open ∙ (may.2 is).0)
-answers kind limit word gate (Err (gate_no.Quit h why)) of_generation of_notice of_open e = let met = refused_by (is_session kind) limit word (notice_in word) h why e in
+answers kind is_ordinary limit word gate (Err (gate_no.Quit h why)) of_generation of_notice of_open e = let met = refused_by (is_session kind) limit.most (reserve_by is_ordinary limit) word (notice_in word) h why e in
     (met.1 ∙ of_generation, sym of_notice ∙ met.0)
-answers kind limit word gate (Err (gate_no.NotReady h)) of_generation of_notice of_open e = let met = not_ready (is_session kind) limit word (notice_in word) h e in
-    (met.1 ∙ of_generation, sym of_notice ∙ met.0, met.2, sym of_open ∙ met.3)
-answers kind limit word gate (Err (gate_no.TooMany count)) of_generation of_notice of_open e = let met = too_many (is_session kind) limit word (notice_in word) count e in
-    (met.1, sym of_notice ∙ met.0, met.2, sym of_open ∙ met.3)
+answers kind is_ordinary limit word gate (Err (gate_no.NotReady h)) of_generation of_notice of_open e = let met = not_ready (is_session kind) limit.most (reserve_by is_ordinary limit) word (notice_in word) h e in
+    (met.1 ∙ of_generation, (sym of_notice ∙ met.0, met.2, sym of_open ∙ met.3))
+answers kind is_ordinary limit word gate (Err (gate_no.TooMany count)) of_generation of_notice of_open e = let met = too_many (is_session kind) limit.most (reserve_by is_ordinary limit) word (notice_in word) count e in
+    (met.1, (sym of_notice ∙ met.0, met.2, sym of_open ∙ met.3))
+answers kind is_ordinary limit word gate (Err (gate_no.Reserved count)) of_generation of_notice of_open e = let met = reserved_for (is_session kind) limit.most (reserve_by is_ordinary limit) word (notice_in word) count e in
+    let kept_from = keeps_from is_ordinary limit count met.1 met.2 in
+    (kept_from.0, met.1, kept_from.1, (sym of_notice ∙ met.0, met.3, sym of_open ∙ met.4))
 
 -- so no more sessions stay than the limit, and none at a gate that isn't open
 few_of : (b : Bool) (S S' N met limit most : ℕ) (t : Bool) → S' ≡ S + bit t → S ≤ limit → S ≤ N → met ≡ N → most ≡ limit → (t ≡ true → met < most) → t ≡ b → S' ≤ limit
@@ -91,20 +149,20 @@ shut_of true S S' t o is_open grows same shut opens e closed = let no_ : true �
 shut_of false S S' t o is_open grows same shut opens e closed = let z : S ≡ 0 = shut closed in let y : bit t ≡ 0 = ap bit e in omega arith
 
 module _ {J D : Type 0} (letter : Letter.Ghosts J D) where
-  module _ (limit : ℕ) where
+  module _ (limit : SessionLimit) where
     -- what the gate's word tells whoever meets it
     read : (s : St letter) (r : Kept letter limit s) → Reads (child_slots (length s.homes)) (get_or s.words (child_slots (length s.homes)) 0) (gate_of r.1) r.2
     read s r = reads limit (child_slots (length s.homes)) (get_or s.words (child_slots (length s.homes)) 0) (gate_of r.1) r.2 r.4 (λ k l. (r.3.each_slot k l).does)
 
     -- Whom the gate's word lets in, attaches in its own generation, and may do so in what the board shows
-    pub lets_in : (s : St letter) (r : Kept letter limit s) (id k : ℕ) (w : PostView D) (o : Offer D) (h : ℕ) → get_elem? s.views id ≡ some (Worker k w) → w.work ≡ Active o → is_dead_end o.kind ≡ false
-        → gate_answer o.kind w.notes.session_limit (get_or s.words (child_slots (length s.homes)) 0) ≡ Ok h → (h ≡ o.generation) × shared.Allows limit r.5.1 (shared.Attach o.pid)
+    pub lets_in : (s : St letter) (r : Kept letter limit s) (id k : ℕ) (w : PostView D) (o : Offer D) (is_ordinary : Bool) (h : ℕ) → get_elem? s.views id ≡ some (Worker k w) → w.work ≡ Active o → is_dead_end o.kind ≡ false
+        → gate_answer o.kind is_ordinary w.notes.session_limit (get_or s.words (child_slots (length s.homes)) 0) ≡ Ok h → (h ≡ o.generation) × shared.Allows limit.most r.5.1 (shared.Attach o.pid (reserve_by is_ordinary limit))
         × ((master : ℕ) (d : RosterView D) → get_elem? s.views master ≡ some (Postmaster d) → (d.noticed ≡ None) × (d.generation ≡ h) × (is_session o.kind ≡ true → d.is_open ≡ true))
-    lets_in s r id k w o h at does lives_ answer =
+    lets_in s r id k w o is_ordinary h at does lives_ answer =
         let word : ℕ = get_or s.words (child_slots (length s.homes)) 0 in let mine = owned letter limit s r.0 r.1 r.2 r.3 id k w at in let it = read s r in
         let e = does_act (r.2 k).phase o (subst (Does (r.2 k).phase) does mine.1.does) in
         let lim : w.notes.session_limit ≡ limit = (subst (InGeneration limit r.1.generation) mine.2 (r.4.current k)).limit_is in
-        let may = let_in (is_session o.kind) w.notes.session_limit word (notice_in word) h answer in
+        let may = let_in (is_session o.kind) w.notes.session_limit.most (reserve_by is_ordinary w.notes.session_limit) word (notice_in word) h answer in
         let now_is : o.generation ≡ r.1.generation = (placed_as letter limit _ _ _ _ (running o true) e (r.3.each_child k mine.0)).0 in
         let N : ℕ = sum_below (child_slots (length s.homes)) (λ j. counted is_session r.1.generation (r.2 j).post) in
         let met : sessions_in word ≡ N = it.sessions_found ∙ it.sessions_is in
@@ -113,7 +171,7 @@ module _ {J D : Type 0} (letter : Letter.Ghosts J D) where
         let attached_in : sum_below (child_slots (length s.homes)) (λ j. attached is_session (r.2 j).post.work) ≤ N = sum_within (child_slots (length s.homes)) (λ j. attached is_session (r.2 j).post.work) (λ j. counted is_session r.1.generation (r.2 j).post)
         (λ j. let z : attached is_session (r.2 j).post.work ≤ at_gate is_session (r.2 j).post.work = attached_within is_session (r.2 j).post.work in let l : ℕ = lost is_session r.1.generation (r.2 j).post.past in omega arith) in (
           may.1 ∙ (it.generation_found ∙ sym now_is),
-          subst (λ z. IsSomeAnd z (shared.MayAttach limit st.1)) (sym known.0) (refl, lives_, st.3.noticed ∙ (sym it.notice_found ∙ may.0), λ is. let m = may.2 is in let room : sessions_in word < w.notes.session_limit = m.1 in (st.3.is_open ∙ (sym it.open_found ∙ m.0), omega arith)),
+          subst (λ z. IsSomeAnd z (shared.MayAttach limit.most (reserve_by is_ordinary limit) st.1)) (sym known.0) (refl, lives_, st.3.noticed ∙ (sym it.notice_found ∙ may.0), λ is. let m = may.2 is in let room : sessions_in word + reserve_by is_ordinary limit < limit.most = subst (λ (z : SessionLimit). sessions_in word + reserve_by is_ordinary z < z.most) lim m.1 in (st.3.is_open ∙ (sym it.open_found ∙ m.0), omega arith)),
           λ master d has. let same = (r.3.each_seat master (Postmaster d) has).1 in
               (ap (λ (z : RosterView D). z.noticed) same ∙ (sym it.notice_found ∙ may.0), ap (λ (z : RosterView D). z.generation) same ∙ (sym it.generation_found ∙ sym may.1), λ is. ap (λ (z : RosterView D). z.is_open) same ∙ (sym it.open_found ∙ (may.2 is).0)),
         )
@@ -186,7 +244,7 @@ module _ {J D : Type 0} (letter : Letter.Ghosts J D) where
       -- the gate's part of the rule, with this word
       gate_so : (word : ℕ) → (r.2 k).phase ≡ running o true → w'.notes.session_limit ≡ w.notes.session_limit → IsCurrent r.1.generation w'.work
           → word ≡ gate_packed record { generation = r.1.generation; is_open = r.1.is_open; noticed = r.1.noticed; sessions = sum_below (child_slots (length s.homes)) (λ j. counted is_session r.1.generation (put r.2 k cell j).post); auxiliaries = sum_below (child_slots (length s.homes)) (λ j. counted is_auxiliary r.1.generation (put r.2 k cell j).post) }
-          → sum_below (child_slots (length s.homes)) (λ j. staying is_session r.1.generation (put r.2 k cell j).post) ≤ limit
+          → sum_below (child_slots (length s.homes)) (λ j. staying is_session r.1.generation (put r.2 k cell j).post) ≤ limit.most
           → (r.1.is_open ≡ false → sum_below (child_slots (length s.homes)) (λ j. staying is_session r.1.generation (put r.2 k cell j).post) ≡ 0) → GateOk limit (child_slots (length s.homes)) word (gate_of r.1) (put r.2 k cell)
       gate_so word e lim now shows few shut = let ok = r.4 in let was = subst (InGeneration limit r.1.generation) is (ok.current k) in record {
         shows = shows;
@@ -213,7 +271,7 @@ module _ {J D : Type 0} (letter : Letter.Ghosts J D) where
     -- the gate's part where the child of the slot k takes a place
     takes_place : (s : St letter) (r : Kept letter limit s) (id k : ℕ) (o : Offer D) (w w' : PostView D) (near : k < child_slots (length s.homes)) (is : (r.2 k).post ≡ w) (same : w'.past ≡ w.past) → (r.2 k).phase ≡ running o true → is_dead_end o.kind ≡ false
         → w'.notes.session_limit ≡ w.notes.session_limit → ((test : Kind → Bool) → at_gate test w'.work ≡ at_gate test w.work + bit (test o.kind)) → IsCurrent r.1.generation w'.work
-        → sum_below (child_slots (length s.homes)) (λ j. staying is_session r.1.generation (put r.2 k (cell s r id k o w w' near is same) j).post) ≤ limit
+        → sum_below (child_slots (length s.homes)) (λ j. staying is_session r.1.generation (put r.2 k (cell s r id k o w w' near is same) j).post) ≤ limit.most
         → (r.1.is_open ≡ false → sum_below (child_slots (length s.homes)) (λ j. staying is_session r.1.generation (put r.2 k (cell s r id k o w w' near is same) j).post) ≡ 0)
         → GateOk limit (child_slots (length s.homes)) ((get_or s.words (child_slots (length s.homes)) 0 + place_of (is_session o.kind)) % 2 ^ 64) (gate_of r.1) (put r.2 k (cell s r id k o w w' near is same))
     takes_place s r id k o w w' near is same runs lives_ lim adds now few shut =
@@ -243,7 +301,7 @@ module _ {J D : Type 0} (letter : Letter.Ghosts J D) where
         let word = ap (λ (z : ℕ). (get_or s.words (child_slots (length s.homes)) 0 + (2 ^ 64 - z)) % 2 ^ 64) (place_is o.kind lives_)
         ∙ without_place (get_or s.words (child_slots (length s.homes)) 0) S A (bit r.1.is_open) (notice_bits r.1.noticed) g t u shows (bit_small (is_session o.kind)) (bit_small (is_auxiliary o.kind)) full in
         let less_ : sum_below (child_slots (length s.homes)) (λ j. staying is_session g (put r.2 k (cell s r id k o w w' near is same) j).post) ≤ sum_below (child_slots (length s.homes)) (λ j. staying is_session g (r.2 j).post) = stays_less s r id k o w w' near is same is_session g fewer in
-        let few : sum_below (child_slots (length s.homes)) (λ j. staying is_session g (r.2 j).post) ≤ limit = r.4.few in
+        let few : sum_below (child_slots (length s.homes)) (λ j. staying is_session g (r.2 j).post) ≤ limit.most = r.4.few in
         gate_so s r id k o w w' near is same ((get_or s.words (child_slots (length s.homes)) 0 + (2 ^ 64 - place_of (is_session o.kind))) % 2 ^ 64) runs lim now word (omega arith)
         (λ shut. let z : sum_below (child_slots (length s.homes)) (λ j. staying is_session g (r.2 j).post) ≡ 0 = r.4.shut shut in omega arith)
 
@@ -252,13 +310,13 @@ module _ {J D : Type 0} (letter : Letter.Ghosts J D) where
     Goes s id n me f tells = (v : View D) × (a : Act (Option J)) × Valid s.homes me.1 a × Kept letter limit (stepped s n (f (get_or s.words n 0)) id me.1 v a) × tells (get_or s.words n 0) (v, carried_after me.1 a)
 
     -- a worker's child tries at the gate
-    tries_here : (s : St letter) (r : Kept letter limit s) (id k : ℕ) (o : Offer D) (notes : PostNotes) (past : List (PastChild D)) (c : List (ℕ × Option J)) → is_dead_end o.kind ≡ false → get_elem? s.views id ≡ some (Worker k (post_view notes past (Active o)))
-        → (b : Result ℕ GateNo) → gate_answer o.kind notes.session_limit (get_or s.words (child_slots (length s.homes)) 0) ≡ b
-        → Goes s id (child_slots (length s.homes)) (Worker k (post_view notes past (Active o)), c) (λ x. (x + place_of (is_session o.kind)) % 2 ^ 64) (Tries (step (length s.homes) (child_slots (length s.homes)) (place_of (is_session o.kind)) 0 none) (Worker k (post_view notes past (Active o)), c))
-    tries_here s r id k o notes past c lives_ at (Ok h) answer =
-        let w : PostView D = post_view notes past (Active o) in let word : ℕ = get_or s.words (child_slots (length s.homes)) 0 in let w' : PostView D = tried_by w o word (Ok h) in let mine = owned letter limit s r.0 r.1 r.2 r.3 id k w at in
+    tries_here : (is_ordinary : Bool) (s : St letter) (r : Kept letter limit s) (id k : ℕ) (o : Offer D) (notes : PostNotes) (past : List (PastChild D)) (c : List (ℕ × Option J)) → is_dead_end o.kind ≡ false → get_elem? s.views id ≡ some (Worker k (post_view notes past (Active o)))
+        → (b : Result ℕ GateNo) → gate_answer o.kind is_ordinary notes.session_limit (get_or s.words (child_slots (length s.homes)) 0) ≡ b
+        → Goes s id (child_slots (length s.homes)) (Worker k (post_view notes past (Active o)), c) (λ x. (x + place_of (is_session o.kind)) % 2 ^ 64) (Tries is_ordinary (step (length s.homes) (child_slots (length s.homes)) (place_of (is_session o.kind)) 0 none) (Worker k (post_view notes past (Active o)), c))
+    tries_here is_ordinary s r id k o notes past c lives_ at (Ok h) answer =
+        let w : PostView D = post_view notes past (Active o) in let word : ℕ = get_or s.words (child_slots (length s.homes)) 0 in let w' : PostView D = tried_by w o word (attempt is_ordinary (Ok h)) in let mine = owned letter limit s r.0 r.1 r.2 r.3 id k w at in
         let it = read s r in let e = does_act _ o mine.1.does in let ok = at_phase letter limit _ _ _ _ _ e mine.1 in let lim : notes.session_limit ≡ limit = (subst (InGeneration limit r.1.generation) mine.2 (r.4.current k)).limit_is in
-        let may = let_in (is_session o.kind) notes.session_limit word (notice_in word) h answer in
+        let may = let_in (is_session o.kind) notes.session_limit.most (reserve_by is_ordinary notes.session_limit) word (notice_in word) h answer in
         let now_is : o.generation ≡ r.1.generation = (placed_as letter limit _ _ _ _ (running o true) e (r.3.each_child k mine.0)).0 in
         let S : ℕ = sum_below (child_slots (length s.homes)) (λ j. staying is_session r.1.generation (r.2 j).post) in let N : ℕ = sum_below (child_slots (length s.homes)) (λ j. counted is_session r.1.generation (r.2 j).post) in
         let inside : S ≤ N = sum_within (child_slots (length s.homes)) (λ j. staying is_session r.1.generation (r.2 j).post) (λ j. counted is_session r.1.generation (r.2 j).post)
@@ -266,15 +324,15 @@ module _ {J D : Type 0} (letter : Letter.Ghosts J D) where
         let met : sessions_in word ≡ N = it.sessions_found ∙ it.sessions_is in
         let S' : ℕ = sum_below (child_slots (length s.homes)) (λ j. staying is_session r.1.generation (put r.2 k (cell s r id k o w w' mine.0 mine.2 refl) j).post) in
         let grows : S' ≡ S + bit (is_session o.kind) = stays s r id k o w w' mine.0 mine.2 refl is_session r.1.generation (bit (is_session o.kind)) (sym (zero-add (bit (is_session o.kind)))) in
-        let under : S ≤ limit = r.4.few in
-        let few : (b : Bool) → is_session o.kind ≡ b → S' ≤ limit = (λ b. few_of b S S' N (sessions_in word) limit notes.session_limit (is_session o.kind) grows under inside met lim (λ is. (may.2 is).1)) in
+        let under : S ≤ limit.most = r.4.few in
+        let few : (b : Bool) → is_session o.kind ≡ b → S' ≤ limit.most = (λ b. few_of b S S' N (sessions_in word) limit.most notes.session_limit.most (is_session o.kind) grows under inside met (ap (λ (z : SessionLimit). z.most) lim) (λ is. let m = (may.2 is).1 in omega arith)) in
         let shut : (b : Bool) → is_session o.kind ≡ b → r.1.is_open ≡ false → S' ≡ 0 = (λ b. shut_of b S S' (is_session o.kind) (open_in word) r.1.is_open grows it.open_found r.4.shut (λ is. (may.2 is).0)) in
         let st = r.5 in let known = lives letter limit s r.0 r.1 r.2 r.3 st k mine.0 o true (Active o) e (ap (λ (z : PostView D). z.work) mine.2) in
         let attached_few : attached_sessions st.1.children ≤ sum_below (child_slots (length s.homes)) (λ j. attached is_session (r.2 j).post.work) = shown_attached (child_slots (length s.homes)) r.1 r.2 st.1 st.3 (λ j l. (r.3.each_slot j l).does) in
         let attached_in : sum_below (child_slots (length s.homes)) (λ j. attached is_session (r.2 j).post.work) ≤ N = sum_within (child_slots (length s.homes)) (λ j. attached is_session (r.2 j).post.work) (λ j. counted is_session r.1.generation (r.2 j).post)
         (λ j. let z : attached is_session (r.2 j).post.work ≤ at_gate is_session (r.2 j).post.work = attached_within is_session (r.2 j).post.work in let l : ℕ = lost is_session r.1.generation (r.2 j).post.past in omega arith) in
-        let shown : IsAssignedBy r.1.notes.steps o → AnsweredBefore (doings r.1.notes.steps notes.session_limit) o (Ok h) =
-        (λ there. answered_now notes.session_limit r.1.notes.steps o (gate_of r.1) (Ok h) r.5.4.leave there (sym now_is) (answers o.kind notes.session_limit word (gate_of r.1) (Ok h) it.generation_found it.notice_found it.open_found answer)) in (
+        let shown : IsAssignedBy r.1.notes.steps o → AnsweredBefore (doings r.1.notes.steps notes.session_limit) o (attempt is_ordinary (Ok h)) =
+        (λ there. answered_now notes.session_limit r.1.notes.steps o (gate_of r.1) (attempt is_ordinary (Ok h)) r.5.4.leave there (sym now_is) (answers o.kind is_ordinary notes.session_limit word (gate_of r.1) (Ok h) it.generation_found it.notice_found it.open_found answer)) in (
           Worker k w',
           keeps,
           tt,
@@ -283,22 +341,23 @@ module _ {J D : Type 0} (letter : Letter.Ghosts J D) where
               (placed_as letter limit _ _ _ _ (running o true) e (r.3.each_child k mine.0))) refl
               (subst (λ (z : ℕ). GateOk limit (child_slots (length s.homes)) z (gate_of r.1) (put r.2 k (cell s r id k o w w' mine.0 mine.2 refl))) (sym (get_or-set_same s.words (child_slots (length s.homes)) ((word + place_of (is_session o.kind)) % 2 ^ 64) 0 (let wide : length s.words ≡ 3 * child_slots (length s.homes) + 1 = r.3.wide in omega arith)))
               (takes_place s r id k o w w' mine.0 mine.2 refl e lives_ refl (λ test. sym (zero-add (bit (test o.kind)))) (may.1 ∙ it.generation_found, lives_) (few (is_session o.kind) refl) (shut (is_session o.kind) refl)))
-              (passes letter limit s r.0 r.1 r.2 r.3 st k mine.0 o true (Active o) (cell s r id k o w w' mine.0 mine.2 refl) (shared.Attach o.pid) (post_step.Attach o.pid) e (ap (λ (z : PostView D). z.work) mine.2) refl refl
-              (subst (λ z. IsSomeAnd z (shared.MayAttach limit st.1)) (sym known.0) (refl, lives_, st.3.noticed ∙ (sym it.notice_found ∙ may.0), λ is. let m = may.2 is in let room : sessions_in word < notes.session_limit = m.1 in (st.3.is_open ∙ (sym it.open_found ∙ m.0), omega arith)))
-              refl refl refl refl (ap (λ z. z ++ post_step.Attach o.pid ∷ []) (sym (ap (λ (z : PostView D). z.notes.steps) mine.2))) (sym (ap (λ (z : PostView D). z.past) mine.2)))
-              (let l = latch_here _ _ _ _ _ (r.2 k) (running o true) w e mine.2 (r.6.each k mine.0) in let near : k < child_slots (length s.homes) = mine.0 in latches_still _ k (child_slots (length s.homes)) _ s.words r.1 _ r.2 _ (omega arith, omega arith) (ap (λ (z : PostView D). z.notes.cancels) (sym mine.2)) refl refl refl refl record { armed = l.armed; fits = l.fits; standing = l.standing; cancel_is = l.cancel_is; now = hears_met notes.session_limit _ _ _ o notes.now (Ok h) l.now (shown l.unreleased); past = l.past; unreleased = l.unreleased; named = l.named; keyed = l.keyed; reaches = l.reaches; calls = l.calls } r.6) (seats_step id k s.views r.1 r.2 _ _ _ at (r.3.each_seat id _ at) r.7),
+              (passes letter limit s r.0 r.1 r.2 r.3 st k mine.0 o true (Active o) (cell s r id k o w w' mine.0 mine.2 refl) (shared.Attach o.pid (reserve_by is_ordinary notes.session_limit)) (post_step.Attach o.pid (reserve_by is_ordinary notes.session_limit)) e (ap (λ (z : PostView D). z.work) mine.2) refl refl
+              (subst (λ z. IsSomeAnd z (shared.MayAttach limit.most (reserve_by is_ordinary notes.session_limit) st.1)) (sym known.0) (refl, lives_, st.3.noticed ∙ (sym it.notice_found ∙ may.0), λ is. let m = may.2 is in let room : sessions_in word + reserve_by is_ordinary notes.session_limit < notes.session_limit.most = m.1 in let most : notes.session_limit.most ≡ limit.most = ap (λ (z : SessionLimit). z.most) lim in (st.3.is_open ∙ (sym it.open_found ∙ m.0), omega arith)))
+              (subst (λ (z : SessionLimit). shared.IsReserve z.reserved (reserve_by is_ordinary notes.session_limit)) lim (keeps_rightly is_ordinary notes.session_limit))
+              refl refl refl refl (ap (λ z. z ++ post_step.Attach o.pid (reserve_by is_ordinary notes.session_limit) ∷ []) (sym (ap (λ (z : PostView D). z.notes.steps) mine.2))) (sym (ap (λ (z : PostView D). z.past) mine.2)))
+              (let l = latch_here _ _ _ _ _ (r.2 k) (running o true) w e mine.2 (r.6.each k mine.0) in let near : k < child_slots (length s.homes) = mine.0 in latches_still _ k (child_slots (length s.homes)) _ s.words r.1 _ r.2 _ (omega arith, omega arith) (ap (λ (z : PostView D). z.notes.cancels) (sym mine.2)) refl refl refl refl record { armed = l.armed; fits = l.fits; standing = l.standing; cancel_is = l.cancel_is; now = hears_met notes.session_limit _ _ _ o notes.now (attempt is_ordinary (Ok h)) l.now (shown l.unreleased); past = l.past; unreleased = l.unreleased; named = l.named; keyed = l.keyed; reaches = l.reaches; calls = l.calls } r.6) (seats_step id k s.views r.1 r.2 _ _ _ at (r.3.each_seat id _ at) r.7),
           λ o' does. let both : Active o ≡ Active o' = does in let oe : o ≡ o' = cc in
-              ((ap (λ (b : Result ℕ GateNo). (Worker k (tried_by w o word b), c)) (sym answer) ∙ (λ i. (Worker k (tried w (oe i) word), c))), subst (λ (z : ℕ). z < 4294967296) (sym it.generation_found) r.4.fits, it.generation_found ∙ (sym now_is ∙ ap (λ (z : Offer D). z.generation) oe)),
+              ((ap (λ (b : Result ℕ GateNo). (Worker k (tried_by w o word (attempt is_ordinary b)), c)) (sym answer) ∙ (λ i. (Worker k (tried w (oe i) is_ordinary word), c))), subst (λ (z : ℕ). z < 4294967296) (sym it.generation_found) r.4.fits, it.generation_found ∙ (sym now_is ∙ ap (λ (z : Offer D). z.generation) oe)),
         )
-    tries_here s r id k o notes past c lives_ at (Err refusal) answer =
-        let w : PostView D = post_view notes past (Active o) in let word : ℕ = get_or s.words (child_slots (length s.homes)) 0 in let w' : PostView D = tried_by w o word (Err refusal) in let mine = owned letter limit s r.0 r.1 r.2 r.3 id k w at in
+    tries_here is_ordinary s r id k o notes past c lives_ at (Err refusal) answer =
+        let w : PostView D = post_view notes past (Active o) in let word : ℕ = get_or s.words (child_slots (length s.homes)) 0 in let w' : PostView D = tried_by w o word (attempt is_ordinary (Err refusal)) in let mine = owned letter limit s r.0 r.1 r.2 r.3 id k w at in
         let it = read s r in let e = does_act _ o mine.1.does in let ok = at_phase letter limit _ _ _ _ _ e mine.1 in
-        let S : ℕ = sum_below (child_slots (length s.homes)) (λ j. staying is_session r.1.generation (r.2 j).post) in let under : S ≤ limit = r.4.few in
+        let S : ℕ = sum_below (child_slots (length s.homes)) (λ j. staying is_session r.1.generation (r.2 j).post) in let under : S ≤ limit.most = r.4.few in
         let S' : ℕ = sum_below (child_slots (length s.homes)) (λ j. staying is_session r.1.generation (put r.2 k (cell s r id k o w w' mine.0 mine.2 refl) j).post) in
         let grows : S' ≡ S + 0 = stays s r id k o w w' mine.0 mine.2 refl is_session r.1.generation 0 refl in
         let now_is : o.generation ≡ r.1.generation = (placed_as letter limit _ _ _ _ (running o true) e (r.3.each_child k mine.0)).0 in
-        let shown : IsAssignedBy r.1.notes.steps o → AnsweredBefore (doings r.1.notes.steps notes.session_limit) o (Err refusal) =
-        (λ there. answered_now notes.session_limit r.1.notes.steps o (gate_of r.1) (Err refusal) r.5.4.leave there (sym now_is) (answers o.kind notes.session_limit word (gate_of r.1) (Err refusal) it.generation_found it.notice_found it.open_found answer)) in (
+        let shown : IsAssignedBy r.1.notes.steps o → AnsweredBefore (doings r.1.notes.steps notes.session_limit) o (attempt is_ordinary (Err refusal)) =
+        (λ there. answered_now notes.session_limit r.1.notes.steps o (gate_of r.1) (attempt is_ordinary (Err refusal)) r.5.4.leave there (sym now_is) (answers o.kind is_ordinary notes.session_limit word (gate_of r.1) (Err refusal) it.generation_found it.notice_found it.open_found answer)) in (
           Worker k w',
           keeps,
           tt,
@@ -308,16 +367,16 @@ module _ {J D : Type 0} (letter : Letter.Ghosts J D) where
               (subst (λ (z : ℕ). GateOk limit (child_slots (length s.homes)) z (gate_of r.1) (put r.2 k (cell s r id k o w w' mine.0 mine.2 refl))) (sym (get_or-set_same s.words (child_slots (length s.homes)) ((word + place_of (is_session o.kind)) % 2 ^ 64) 0 (let wide : length s.words ≡ 3 * child_slots (length s.homes) + 1 = r.3.wide in omega arith)))
               (takes_place s r id k o w w' mine.0 mine.2 refl e lives_ refl (λ test. sym (zero-add (bit (test o.kind)))) (it.generation_found, lives_) (omega arith) (λ shut. let z : S ≡ 0 = r.4.shut shut in omega arith)))
               (quiet limit r.1 r.1 r.2 (child_slots (length s.homes)) k (cell s r id k o w w' mine.0 mine.2 refl) (running o true) (Active o) refl refl refl refl (λ _ z. z) mine.0 e (ap (λ (z : PostView D). z.work) mine.2) (sym (ap (λ (z : PostView D). z.notes.steps) mine.2)) (sym (ap (λ (z : PostView D). z.past) mine.2)) refl (λ _ z. z) r.5)
-              (let l = latch_here _ _ _ _ _ (r.2 k) (running o true) w e mine.2 (r.6.each k mine.0) in let near : k < child_slots (length s.homes) = mine.0 in latches_still _ k (child_slots (length s.homes)) _ s.words r.1 _ r.2 _ (omega arith, omega arith) (ap (λ (z : PostView D). z.notes.cancels) (sym mine.2)) refl refl refl refl record { armed = l.armed; fits = l.fits; standing = l.standing; cancel_is = l.cancel_is; now = hears_met notes.session_limit _ _ _ o notes.now (Err refusal) l.now (shown l.unreleased); past = l.past; unreleased = l.unreleased; named = l.named; keyed = l.keyed; reaches = l.reaches; calls = l.calls } r.6) (seats_step id k s.views r.1 r.2 _ _ _ at (r.3.each_seat id _ at) r.7),
+              (let l = latch_here _ _ _ _ _ (r.2 k) (running o true) w e mine.2 (r.6.each k mine.0) in let near : k < child_slots (length s.homes) = mine.0 in latches_still _ k (child_slots (length s.homes)) _ s.words r.1 _ r.2 _ (omega arith, omega arith) (ap (λ (z : PostView D). z.notes.cancels) (sym mine.2)) refl refl refl refl record { armed = l.armed; fits = l.fits; standing = l.standing; cancel_is = l.cancel_is; now = hears_met notes.session_limit _ _ _ o notes.now (attempt is_ordinary (Err refusal)) l.now (shown l.unreleased); past = l.past; unreleased = l.unreleased; named = l.named; keyed = l.keyed; reaches = l.reaches; calls = l.calls } r.6) (seats_step id k s.views r.1 r.2 _ _ _ at (r.3.each_seat id _ at) r.7),
           λ o' does. let both : Active o ≡ Active o' = does in let oe : o ≡ o' = cc in
-              ((ap (λ (b : Result ℕ GateNo). (Worker k (tried_by w o word b), c)) (sym answer) ∙ (λ i. (Worker k (tried w (oe i) word), c))), subst (λ (z : ℕ). z < 4294967296) (sym it.generation_found) r.4.fits, it.generation_found ∙ (sym now_is ∙ ap (λ (z : Offer D). z.generation) oe)),
+              ((ap (λ (b : Result ℕ GateNo). (Worker k (tried_by w o word (attempt is_ordinary b)), c)) (sym answer) ∙ (λ i. (Worker k (tried w (oe i) is_ordinary word), c))), subst (λ (z : ℕ). z < 4294967296) (sym it.generation_found) r.4.fits, it.generation_found ∙ (sym now_is ∙ ap (λ (z : Offer D). z.generation) oe)),
         )
 
-    pub tries : (n id k : ℕ) (o : Offer D) (notes : PostNotes) (past : List (PastChild D)) (c : List (ℕ × Option J)) → is_dead_end o.kind ≡ false
-        → Allows (Kept letter limit) n id (Worker k (post_view notes past (Active o)), c) (child_slots n) (λ x. (x + place_of (is_session o.kind)) % 2 ^ 64) (Tries (step n (child_slots n) (place_of (is_session o.kind)) 0 none) (Worker k (post_view notes past (Active o)), c))
-    tries n id k o notes past c lives_ s r wide at _ =
-        subst (λ (m : ℕ). Goes s id (child_slots m) (Worker k (post_view notes past (Active o)), c) (λ x. (x + place_of (is_session o.kind)) % 2 ^ 64) (Tries (step m (child_slots m) (place_of (is_session o.kind)) 0 none) (Worker k (post_view notes past (Active o)), c))) wide
-        (tries_here s r id k o notes past c lives_ at (gate_answer o.kind notes.session_limit (get_or s.words (child_slots (length s.homes)) 0)) refl)
+    pub tries : (is_ordinary : Bool) (n id k : ℕ) (o : Offer D) (notes : PostNotes) (past : List (PastChild D)) (c : List (ℕ × Option J)) → is_dead_end o.kind ≡ false
+        → Allows (Kept letter limit) n id (Worker k (post_view notes past (Active o)), c) (child_slots n) (λ x. (x + place_of (is_session o.kind)) % 2 ^ 64) (Tries is_ordinary (step n (child_slots n) (place_of (is_session o.kind)) 0 none) (Worker k (post_view notes past (Active o)), c))
+    tries is_ordinary n id k o notes past c lives_ s r wide at _ =
+        subst (λ (m : ℕ). Goes s id (child_slots m) (Worker k (post_view notes past (Active o)), c) (λ x. (x + place_of (is_session o.kind)) % 2 ^ 64) (Tries is_ordinary (step m (child_slots m) (place_of (is_session o.kind)) 0 none) (Worker k (post_view notes past (Active o)), c))) wide
+        (tries_here is_ordinary s r id k o notes past c lives_ at (gate_answer o.kind is_ordinary notes.session_limit (get_or s.words (child_slots (length s.homes)) 0)) refl)
 
     -- a refused child gives its place back
     back_here : (s : St letter) (r : Kept letter limit s) (id k : ℕ) (o : Offer D) (g : ℕ) (notes : PostNotes) (past : List (PastChild D)) (c : List (ℕ × Option J)) → get_elem? s.views id ≡ some (Worker k (post_view notes past (Refused o g))) → get_or s.words (child_slots (length s.homes)) 0 < 18446744073709551616
@@ -360,7 +419,7 @@ module _ {J D : Type 0} (letter : Letter.Ghosts J D) where
               (subst (λ (z : ℕ). GateOk limit (child_slots (length s.homes)) z (gate_of r.1) (put r.2 k (cell s r id k o w w' mine.0 mine.2 refl))) (sym (get_or-set_same s.words (child_slots (length s.homes)) ((word + (2 ^ 64 - place_of (is_session o.kind))) % 2 ^ 64) 0 (let wide : length s.words ≡ 3 * child_slots (length s.homes) + 1 = r.3.wide in omega arith)))
               (gives_place s r id k o w w' mine.0 mine.2 refl e lives_ refl (λ test. sym (zero-add (bit (test o.kind)))) (omega arith) tt full))
               (passes letter limit s r.0 r.1 r.2 r.3 r.5 k mine.0 o false (Attached o g) (cell s r id k o w w' mine.0 mine.2 refl) (shared.Detach o.pid) (post_step.Detach o.pid) e (ap (λ (z : PostView D). z.work) mine.2) refl refl
-              (subst (λ z. IsSomeAnd z (λ (x : Child). x.attached ≡ true)) (sym known.0) refl)
+              (subst (λ z. IsSomeAnd z (λ (x : Child). x.attached ≡ true)) (sym known.0) refl) tt
               refl refl refl refl (ap (λ z. z ++ post_step.Detach o.pid ∷ []) (sym (ap (λ (z : PostView D). z.notes.steps) mine.2))) (sym (ap (λ (z : PostView D). z.past) mine.2)))
               (let l = latch_here _ _ _ _ _ (r.2 k) (running o true) w e mine.2 (r.6.each k mine.0) in let near : k < child_slots (length s.homes) = mine.0 in latches_still _ k (child_slots (length s.homes)) _ s.words r.1 _ r.2 _ (omega arith, omega arith) (ap (λ (z : PostView D). z.notes.cancels) (sym mine.2)) refl refl refl refl record { armed = l.armed; fits = l.fits; standing = l.standing; cancel_is = l.cancel_is; now = l.now; past = l.past; unreleased = l.unreleased; named = l.named; keyed = l.keyed; reaches = l.reaches; calls = l.calls } r.6) (seats_step id k s.views r.1 r.2 _ _ _ at (r.3.each_seat id _ at) r.7),
           λ o' g' does. let both : Attached o g ≡ Attached o' g' = does in let oe : o ≡ o' = cc in λ i. (Worker k (detached w (oe i)), c),
@@ -445,7 +504,7 @@ ready_word None x s a g e ls la lg h = grown x 16777216 (s + (4096 * a + (167772
 ready_word (Some reason.Crash) x s a g e ls la lg h = less x 16777216 (s + (4096 * a + (16777216 * 1 + (33554432 * 0 + 134217728 * g)))) (omega arith) (omega arith) h
 ready_word (Some reason.Stop) x s a g e ls la lg h = less x 83886080 (s + (4096 * a + (16777216 * 1 + (33554432 * 0 + 134217728 * g)))) (omega arith) (omega arith) h
 
-module _ {J D : Type 0} (letter : Letter.Ghosts J D) (limit : ℕ) where
+module _ {J D : Type 0} (letter : Letter.Ghosts J D) (limit : SessionLimit) where
   -- the supervisor gives notice
   quit_here : (s : St letter) (r : Kept letter limit s) (id : ℕ) (d : RosterView D) (why : Reason) → MayQuit d.noticed why → get_elem? s.views id ≡ some (Postmaster d)
       → Goes letter limit s id (child_slots (length s.homes)) (Postmaster d, []) (λ x. (x + quit_step d.noticed why) % 2 ^ 64) (Quits (step (length s.homes) (child_slots (length s.homes)) (quit_step d.noticed why) 0 none) (Postmaster d, []))

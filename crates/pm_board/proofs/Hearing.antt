@@ -4,10 +4,10 @@ use mathlib.Core.Logic.{dite}
 use native.Mathlib.Decide.{ℕ_discrete, dec_le}
 use Rattle.std.{proofs.lemmas.List.get_or_past, specs.{Prelude.{true, false}, List.{Contains, AllByRecursion}}}
 use Rattle.pm_facts.specs.Numbers.{sum_below}
-use Rattle.pm_board.{specs.{declared.views.{Cancel.Cancel, Heard.Heard, Offer.Offer, PastChild.PastChild, PostNotes.PostNotes, PostView.PostView, RosterStep.RosterStep, RosterView.RosterView, Sight.{Sight, TheVariants.{Unused, Gathered}}, SlotView.SlotView, View.View}, Gate.InGeneration, Heard.{HoldsCancel, KnowsCancel, WasMade, IsKnownAtLast, HeardAsSent}, Latches.{Doings, doings, doings_of, HeardRightly, EachHeard, HeardBy, beside, waiting, times_made, WereMade, cancel_at, Latches}, Words.bit, Places.{slot_view, slot_at}, Rule.{Cell, idle_post}, Seats.{is_gathered, HasSeat, held, taken, Seats}}, proofs.Latches.{heard-more, each-map}}
+use Rattle.pm_board.{specs.{declared.views.{SessionLimit.SessionLimit, Cancel.Cancel, Heard.Heard, Offer.Offer, PastChild.PastChild, PostNotes.PostNotes, PostView.PostView, RosterStep.RosterStep, RosterView.RosterView, Sight.{Sight, TheVariants.{Unused, Gathered}}, SlotView.SlotView, View.View}, Gate.InGeneration, Heard.{HoldsCancel, KnowsCancel, WasMade, IsKnownAtLast, HeardAsSent}, Latches.{Doings, doings, doings_of, HeardRightly, EachHeard, HeardBy, beside, waiting, times_made, WereMade, cancel_at, Latches}, Words.bit, Places.{slot_view, slot_at}, Rule.{Cell, idle_post}, Seats.{is_gathered, HasSeat, held, taken, Seats}}, proofs.Latches.{heard-more, each-map}}
 use Rattle.pm_keys.specs.CancelKey.{cancel_key}
 
-module _ {D : Type 0} (steps : List RosterStep) (limit limit' : ℕ) (same : limit ≡ limit') (before after : ℕ → ℕ → Type 0) (grow : (pid times : ℕ) → before pid times → after pid times) where
+module _ {D : Type 0} (steps : List RosterStep) (limit : SessionLimit) (limit' : SessionLimit) (same : limit ≡ limit') (before after : ℕ → ℕ → Type 0) (grow : (pid times : ℕ) → before pid times → after pid times) where
   pub heard_known : (o : Offer D) (h : Heard) → HeardRightly (doings steps limit) before o h → HeardRightly (doings steps limit') after o h
   heard_known o h r = subst (λ (z : Doings). HeardRightly z after o h) {x = doings (steps ++ []) limit} {y = doings steps limit'} (λ i. doings (append-nil steps i) (same i)) (heard-more limit steps [] before after grow o h r)
 
@@ -15,7 +15,7 @@ module _ {D : Type 0} (steps : List RosterStep) (limit limit' : ℕ) (same : lim
   each_known past hs all = each-map _ _ (λ x h r. heard_known x.offer h r) past hs all
 
 -- every worker goes by the supervisor's limit of sessions
-pub same_limit : {D : Type 0} (limit g : ℕ) (d : RosterView D) (cells : ℕ → Cell D) → ((k : ℕ) → InGeneration limit g (cells k).post) → ((k : ℕ) → d.dealt ≤ k → (cells k).post ≡ idle_post d.session_limit) → (k : ℕ) → (cells k).post.notes.session_limit ≡ d.session_limit
+pub same_limit : {D : Type 0} (limit : SessionLimit) (g : ℕ) (d : RosterView D) (cells : ℕ → Cell D) → ((k : ℕ) → InGeneration limit g (cells k).post) → ((k : ℕ) → d.dealt ≤ k → (cells k).post ≡ idle_post d.session_limit) → (k : ℕ) → (cells k).post.notes.session_limit ≡ d.session_limit
 same_limit {D} limit g d cells current new_posts k = (current k).limit_is ∙ (sym (current d.dealt).limit_is ∙ ap (λ (z : PostView D). z.notes.session_limit) (new_posts d.dealt (omega arith)))
 
 -- where there are cancels for a pid there is one

@@ -8,7 +8,7 @@ use Rattle.std.specs.Prelude.{Bool, true, false, if◌then◌else◌, Option, So
 use Rattle.atomic_table.specs.Table.{State}
 use Rattle.pm_supervisor.specs.{pm_exit.declared.child.Kind.Kind, Children.{Child, child_of, without}, Supervisor.{Shared, first}, Shared.{SharedEvent, after_shared}}
 use Rattle.pm_supervisor.specs.Shared as shared
-use Rattle.pm_board.{specs.{Slots.child_slots, declared.views.{Offer.Offer, PastChild.PastChild, Sight.{Sight, TheVariants.{Unused, Opened, Assigned, Exited, Collected, Gathered}}, RosterView.RosterView, Work.Work, View.{View, TheVariants.Postmaster}, RosterStep.{RosterStep, TheVariants.{Assign, Release, Send}}, Signal.Signal, PostStep.PostStep, PostView.PostView}, Places.slot_at, Gate.{Gate, GateOk, gate_after, gate_of_steps, first_gate, gate_of}, Told.after_step, Latches.{NotReleased, NotSent, OfUnreleased, Latches}, Seats.Seats, Rule.{Phase, unused, opened, offered, running, ended, collected, gathered, Seen, used_pid, Cell, Holds, put, at_put}, History.{Entry, begins, goes_on, supervisor_event, supervisor_in, of_supervisor, worker_event, leave_of, event_of, events_of, worker_step, pid_and_kind, living, shown_child, ShowsChild, Shows, OwnSteps, OwnPart, History, Kept}}, proofs.Latches.{release_is_other, sent_to_other}}
+use Rattle.pm_board.{specs.{Slots.child_slots, declared.views.{SessionLimit.SessionLimit, Offer.Offer, PastChild.PastChild, Sight.{Sight, TheVariants.{Unused, Opened, Assigned, Exited, Collected, Gathered}}, RosterView.RosterView, Work.Work, View.{View, TheVariants.Postmaster}, RosterStep.{RosterStep, TheVariants.{Assign, Release, Send}}, Signal.Signal, PostStep.PostStep, PostView.PostView}, Places.slot_at, Gate.{Gate, GateOk, gate_after, gate_of_steps, first_gate, gate_of}, Told.after_step, Latches.{NotReleased, NotSent, OfUnreleased, Latches}, Seats.Seats, Rule.{Phase, unused, opened, offered, running, ended, collected, gathered, Seen, used_pid, Cell, Holds, put, at_put}, History.{Entry, begins, goes_on, supervisor_event, supervisor_in, of_supervisor, worker_event, leave_of, event_of, events_of, worker_step, pid_and_kind, living, shown_child, ShowsChild, Shows, OwnSteps, OwnPart, History, Kept}}, proofs.Latches.{release_is_other, sent_to_other}}
 use Rattle.pm_board.specs.declared.views.Letter as Letter
 use Rattle.pm_board.specs.declared.views.PostStep.TheVariants as post_step
 
@@ -188,7 +188,7 @@ module _ {D : Type 0} where
       }
 
   -- a step on the slot k that is no event
-  pub quiet : (limit : ℕ) (d d' : RosterView D) (cells : ℕ → Cell D) (n k : ℕ) (c : Cell D) (ph : Phase D) (w : Work D)
+  pub quiet : (limit : SessionLimit) (d d' : RosterView D) (cells : ℕ → Cell D) (n k : ℕ) (c : Cell D) (ph : Phase D) (w : Work D)
       → d'.generation ≡ d.generation → d'.is_open ≡ d.is_open → d'.noticed ≡ d.noticed → d'.notes.last_pid ≡ d.notes.last_pid
       → ((log : List Entry) → OwnSteps log d.notes.steps (gate_of d) → OwnSteps log d'.notes.steps (gate_of d'))
       → k < n → (cells k).phase ≡ ph → (cells k).post.work ≡ w → c.post.notes.steps ≡ (cells k).post.notes.steps → c.post.past ≡ (cells k).post.past → living c.phase ≡ living ph
@@ -219,7 +219,7 @@ module _ {D : Type 0} where
 
 module _ {D : Type 0} where
   -- a send is no event
-  pub send_history : (limit n : ℕ) (d : RosterView D) (cells : ℕ → Cell D) (slot pid g : ℕ) (kind : Kind) (signal : Signal) → History limit d cells n → History limit (after_step d (Send slot pid kind signal g)) cells n
+  pub send_history : (limit : SessionLimit) (n : ℕ) (d : RosterView D) (cells : ℕ → Cell D) (slot pid g : ℕ) (kind : Kind) (signal : Signal) → History limit d cells n → History limit (after_step d (Send slot pid kind signal g)) cells n
   send_history limit n d cells slot pid g kind signal st = let h = st.3 in (
     st.0,
     st.1,
@@ -229,7 +229,7 @@ module _ {D : Type 0} where
     st.5,
   )
 
-module _ {J D : Type 0} (letter : Letter.Ghosts J D) (limit : ℕ) where
+module _ {J D : Type 0} (letter : Letter.Ghosts J D) (limit : SessionLimit) where
   -- pids of living children differ
   pub pids_apart : (s : State (Option J) (View D)) (m : ℕ) (d : RosterView D) (cells : ℕ → Cell D) → Holds letter m d cells s → (k j : ℕ) → k < child_slots (length s.homes) → j < child_slots (length s.homes) → j ≢ k → 0 < living (cells k).phase → living (cells j).phase ≢ living (cells k).phase
   pids_apart s m d cells h k j lk lj ne pos e = let a = seen_pid (cells k).phase (slot_at d k).past (slot_at d k).sight (h.each_slot k lk).seen pos in
@@ -283,7 +283,7 @@ module _ {J D : Type 0} (letter : Letter.Ghosts J D) (limit : ℕ) where
         let known = subst (λ (z : Phase D × Work D). ShowsChild x.children z.0 z.1) {x = ((cells k).phase, (cells k).post.work)} {y = (running o a, w)} (λ i. (is i, does i)) (st.3.each k near) in (
           st.0 ++ e ∷ [],
           after_shared x e.event,
-          goes_on st.0 x e st.2 (subst (λ (z : Option Child). IsSomeAnd z (λ c. c.kind ≡ o.kind)) (sym known) refl),
+          goes_on st.0 x e st.2 (subst (λ (z : Option Child). IsSomeAnd z (λ c. c.kind ≡ o.kind)) (sym known) refl) tt,
           shows_moves x (after_shared x e.event) d d' cells (child_slots (length s.homes)) k p c st.3 near pos
               record { generation = st.3.generation ∙ sym eg; is_open = st.3.is_open ∙ sym eo; noticed = st.3.noticed ∙ sym en; last_pid = st.3.last_pid ∙ ap (λ z. z.last_pid) (sym el) }
               (λ q ne. without_other p q x.children ne)
@@ -309,7 +309,7 @@ module _ {J D : Type 0} (letter : Letter.Ghosts J D) (limit : ℕ) where
         let none : child_of p x.children ≡ None = absent p x.children (λ y some_. let was = st.3.no_other p y some_ in fresh was.0 was.1 was.2) in (
           st.0 ++ e ∷ [],
           after_shared x e.event,
-          goes_on st.0 x e st.2 (omega arith),
+          goes_on st.0 x e st.2 (omega arith) tt,
           shows_moves x (after_shared x e.event) d d' cells (child_slots (length s.homes)) k p c st.3 near (omega arith)
               record { generation = st.3.generation ∙ sym eg; is_open = st.3.is_open ∙ sym eo; noticed = st.3.noticed ∙ sym en; last_pid = sym el }
               (λ q ne. child_miss q child x.children (λ z. ne (sym z)))

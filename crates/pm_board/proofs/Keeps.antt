@@ -10,7 +10,7 @@ use Rattle.std.{proofs.lemmas.List.Elements.Contains-append_left, specs.Prelude.
 use Rattle.atomic_table.{specs.Table.{step, keeps, takes, gives, stepped, opening, Allows, Joins}, proofs.Lists.{at_set, set_here, set_else, set_again}}
 use Rattle.pm_facts.specs.Lists.{at_end, same_everywhere}
 use Rattle.pm_exit.specs.declared.child.Status.{Status, TheVariants.Code}
-use Rattle.pm_board.{specs.{Slots.{child_slots, is_slot}, declared.views.{Offer.Offer, PastChild.PastChild, PostNotes.PostNotes, PostStep.TheVariants.Exit, RosterNotes.RosterNotes, RosterStep.{RosterStep, TheVariants.{Assign, Release}}, Sight.TheVariants.{Unused, Opened, Assigned, Exited, Collected, Gathered}, SlotView.SlotView, RosterView.RosterView, Work.{Work, TheVariants.{Idle, Sees, Inactive, Active, Refused, Attached}}, PostView.PostView, View.{View, TheVariants.{Postmaster, Worker, Spent}}}, Words.{bit, kind_number, kind_of, signal_bit, status_number, exit_step, stage_in, active_in, status_in, FitsWord}, Places.{slot_view, slot_at, is_auxiliary, lost, SlotServes, EndsWell}, Rule.{at_put, put, Phase, unused, opened, offered, running, ended, collected, gathered, child_word, offer_word, word_of, Seen, Does, OfChild, OfLiving, IsPlaced, used_pid, PidsOk, Cell, SlotOk, Agrees, Holds, idle_post}, Gate.{GateOk, gate_of}, Latch.{latch_place, cancel_place}, Latches.{times_sent, WereMade, latch_at, cancel_at, Latches}, Seats.is_gathered, History.Kept, Told.{MayEnd, Assigns, Loads, Starts, Ends, Looks, Releases, Clears, Compares, post_view, past_child, with_slot, noted_assign, noted_release, noted_look, noted_load, noted_start, noted_exit, assigned_slot, running_slot, exited_slot, dealt_more, next_post, with_post, taken_in, newcomer, new_roster}}, proofs.{Bits.{kind_small, kind_again, active_again, status_read, packed_small, same_exit}, Gates.{uncounted, uncounted_by, gate_moves, ended_counts, once_still, once_offered, once_ended, first_gate_ok}, Moves.{rebased, master_step, worker_step, St}, Passes.lives, Latches.{at_last, reach-more, not_released-append, assign_is_no_release, release_is_other, unreleased_all, each-append, hears_first, latch_stepped, latch_released, latch_here, latches_pass, latches_still, first_latches}, Seats.{seats_step, seats_turn, seats_dealt, seats_gathered}, Hearing.{same_limit, heard_as_sent}, Histories.{kept, same_history, own_release, quiet, leaves, joins, first_history, others_stay}}}
+use Rattle.pm_board.{specs.{Slots.{child_slots, is_slot}, declared.views.{SessionLimit.SessionLimit, Offer.Offer, PastChild.PastChild, PostNotes.PostNotes, PostStep.TheVariants.Exit, RosterNotes.RosterNotes, RosterStep.{RosterStep, TheVariants.{Assign, Release}}, Sight.TheVariants.{Unused, Opened, Assigned, Exited, Collected, Gathered}, SlotView.SlotView, RosterView.RosterView, Work.{Work, TheVariants.{Idle, Sees, Inactive, Active, Refused, Attached}}, PostView.PostView, View.{View, TheVariants.{Postmaster, Worker, Spent}}}, Words.{bit, kind_number, kind_of, signal_bit, status_number, exit_step, stage_in, active_in, status_in, FitsWord}, Places.{slot_view, slot_at, is_auxiliary, lost, SlotServes, EndsWell}, Rule.{at_put, put, Phase, unused, opened, offered, running, ended, collected, gathered, child_word, offer_word, word_of, Seen, Does, OfChild, OfLiving, IsPlaced, used_pid, PidsOk, Cell, SlotOk, Agrees, Holds, idle_post}, Gate.{GateOk, gate_of}, Latch.{latch_place, cancel_place}, Latches.{times_sent, WereMade, latch_at, cancel_at, Latches}, Seats.is_gathered, History.Kept, Told.{MayEnd, Assigns, Loads, Starts, Ends, Looks, Releases, Clears, Compares, post_view, past_child, with_slot, noted_assign, noted_release, noted_look, noted_load, noted_start, noted_exit, assigned_slot, running_slot, exited_slot, dealt_more, next_post, with_post, taken_in, newcomer, new_roster}}, proofs.{Bits.{kind_small, kind_again, active_again, status_read, packed_small, same_exit}, Gates.{uncounted, uncounted_by, gate_moves, ended_counts, once_still, once_offered, once_ended, first_gate_ok}, Moves.{rebased, master_step, worker_step, St}, Passes.lives, Latches.{at_last, reach-more, not_released-append, assign_is_no_release, release_is_other, unreleased_all, each-append, hears_first, latch_stepped, latch_released, latch_here, latches_pass, latches_still, first_latches}, Seats.{seats_step, seats_turn, seats_dealt, seats_gathered}, Hearing.{same_limit, heard_as_sent}, Histories.{kept, same_history, own_release, quiet, leaves, joins, first_history, others_stay}}}
 use Rattle.pm_board.specs.declared.views.Letter as Letter
 
 pub grown : (x a y : ℕ) → x + a ≡ y → y < 18446744073709551616 → (x + a) % 2 ^ 64 ≡ y
@@ -193,7 +193,7 @@ all_home zero k a h = absurd (omega arith)
 all_home (suc n) zero a h = refl
 all_home (suc n) (suc k) a h = all_home n k a (omega arith)
 
-module _ {J D : Type 0} (letter : Letter.Ghosts J D) (limit : ℕ) where
+module _ {J D : Type 0} (letter : Letter.Ghosts J D) (limit : SessionLimit) where
   -- the same slot, with a phase that is known
   pub at_phase : (word : ℕ) (home : maybe.Option (maybe.Option (Option J))) (x : SlotView D) (c : Cell D) (p : Phase D) → c.phase ≡ p → SlotOk letter word home x c → SlotOk letter word home x record { phase = p; seat = c.seat; post = c.post }
   at_phase word home x c p e ok = subst (λ (q : Phase D). SlotOk letter word home x record { phase = q; seat = c.seat; post = c.post }) e ok
@@ -465,7 +465,7 @@ module _ {J D : Type 0} (letter : Letter.Ghosts J D) (limit : ℕ) where
       )
 
   -- the table at the start
-  pub begins : (t n : ℕ) (words : List ℕ) → child_slots t ≡ n → length words ≡ 3 * n + 1 → ((k : ℕ) → k ≢ n → get_or words k 0 ≡ 0) → get_or words n 0 ≡ 134217728 → n ≤ 407 → limit ≤ 200 → Kept letter limit (opening words (replicate t None) (newcomer n limit))
+  pub begins : (t n : ℕ) (words : List ℕ) → child_slots t ≡ n → length words ≡ 3 * n + 1 → ((k : ℕ) → k ≢ n → get_or words k 0 ≡ 0) → get_or words n 0 ≡ 134217728 → n ≤ 407 → limit.most ≤ 200 → Kept letter limit (opening words (replicate t None) (newcomer n limit))
   begins t n words slots long zeros gate few most = let d : RosterView D = new_roster n limit 0 in let nothing : Option J = None in let homes : length (map some (replicate t nothing)) ≡ t = length-map (replicate t nothing) some ∙ length-replicate t nothing in let wide : child_slots (length (map some (replicate t nothing))) ≡ n = ap child_slots homes ∙ slots in
       let new : (k : ℕ) → slot_at d k ≡ slot_view [] Unused = λ k. same_everywhere n k (slot_view [] Unused) in let no_pid : (k : ℕ) → used_pid (slot_at d k).sight ≡ 0 = λ k. ap (λ (x : SlotView D). used_pid x.sight) (new k) in (
         0,

@@ -5,9 +5,9 @@ use native.Mathlib.Decide.{ℕ_discrete}
 use Rattle.std.{proofs.lemmas.{List.{append_assoc, Elements.{Contains-append_left, Contains-append_right, Contains-append_cases}}, Nat.Bits.bit_at-zero}, specs.{Prelude.{Bool, ◌&&◌, Some, None, Result, Err, slice_index_or}, Int.bit_at, List.{Contains, AllByRecursion}}}
 use Rattle.pm_facts.specs.Numbers.{sum_below}
 use Rattle.pm_supervisor.specs.{pm_exit.declared.child.{Kind.Kind, Status.Status}, declared.Reason.Reason}
-use Rattle.pm_child_life.specs.declared.life.{GateNo.GateNo, Signals.Signals}
+use Rattle.pm_child_life.specs.declared.life.{Attempt.Attempt, Signals.Signals}
 use Rattle.pm_child_life.specs.declared.life.GateNo.TheVariants as gate_no
-use Rattle.pm_board.{specs.{declared.views.{Heard.Heard, Offer.Offer, PastChild.PastChild, PostView.PostView, RosterStep.{RosterStep, TheVariants.{Assign, Release, Quit, Ready, Reset, Send}}, RosterView.RosterView, Signal.Signal}, Words.bit, Gate.{Gate, GateAnswers, first_gate, gate_of_steps}, Latch.{latch_pid, signal_number}, Latches.{times_made_on, made_on, CallsIn, LatchesOf, is_send, times_sent, times_given, NotSent, Reaches, ReachesIn, NotReleased, IsAssignedBy, AnsweredBefore, doings, HeardRightly, HearsRightly, OfRunning, OfUnreleased, EachHeard, beside, waiting, times_told, times_made, WereMade, LatchOk, latch_at, cancel_at, Latches}, Rule.{Phase, unused, opened, offered, running, ended, collected, gathered, Cell, put, at_put, no_signals, idle_post}}, proofs.{Counts.count_moves, BoardLaws.sent-append}}
+use Rattle.pm_board.{specs.{declared.views.{SessionLimit.SessionLimit, Heard.Heard, Offer.Offer, PastChild.PastChild, PostView.PostView, RosterStep.{RosterStep, TheVariants.{Assign, Release, Quit, Ready, Reset, Send}}, RosterView.RosterView, Signal.Signal}, Words.bit, Gate.{Gate, GateAnswers, first_gate, gate_of_steps}, Latch.{latch_pid, signal_number}, Latches.{times_made_on, made_on, CallsIn, LatchesOf, is_send, times_sent, times_given, NotSent, Reaches, ReachesIn, NotReleased, IsAssignedBy, AnsweredBefore, doings, HeardRightly, HearsRightly, OfRunning, OfUnreleased, EachHeard, beside, waiting, times_told, times_made, WereMade, LatchOk, latch_at, cancel_at, Latches}, Rule.{Phase, unused, opened, offered, running, ended, collected, gathered, Cell, put, at_put, no_signals, idle_post}}, proofs.{Counts.count_moves, BoardLaws.sent-append}}
 
 -- lists
 
@@ -83,12 +83,12 @@ release_is_other pid p g kind ne kind' g' h = let same : Release p kind g ≡ Re
 pub assigned-append : {D : Type 0} (xs ys : List RosterStep) (o : Offer D) → IsAssignedBy xs o → NotReleased o.pid ys → IsAssignedBy (xs ++ ys) o
 assigned-append xs ys o h none = ((h.0.0, Contains-append_left xs ys _ h.0.1), not_released-append o.pid xs ys h.1 none)
 
-module _ {D : Type 0} (limit : ℕ) where
-  answered-append : (xs ys : List RosterStep) (o : Offer D) (answer : Result ℕ GateNo) → AnsweredBefore (doings xs limit) o answer → AnsweredBefore (doings (xs ++ ys) limit) o answer
+module _ {D : Type 0} (limit : SessionLimit) where
+  answered-append : (xs ys : List RosterStep) (o : Offer D) (answer : Attempt) → AnsweredBefore (doings xs limit) o answer → AnsweredBefore (doings (xs ++ ys) limit) o answer
   answered-append xs ys o answer h = (h.0, h.1 ++ ys, ap (λ z. z ++ ys) h.2 ∙ append_assoc h.0 h.1 ys, h.3, h.4, h.5)
 
   -- what the gate answers a child that isn't released stands before its release
-  pub answered_now : (steps : List RosterStep) (o : Offer D) (gate : Gate) (answer : Result ℕ GateNo) → gate_of_steps first_gate steps ≡ gate → IsAssignedBy steps o → gate.generation ≡ o.generation → GateAnswers limit o.kind gate answer → AnsweredBefore (doings steps limit) o answer
+  pub answered_now : (steps : List RosterStep) (o : Offer D) (gate : Gate) (answer : Attempt) → gate_of_steps first_gate steps ≡ gate → IsAssignedBy steps o → gate.generation ≡ o.generation → GateAnswers limit o.kind gate answer → AnsweredBefore (doings steps limit) o answer
   answered_now steps o gate answer leave there own is = (steps, [], sym (append-nil steps), there, ap (λ (z : Gate). z.generation) leave ∙ own, subst (λ (z : Gate). GateAnswers limit o.kind z answer) (sym leave) is)
 
   module _ (xs ys : List RosterStep) (before after : ℕ → ℕ → Type 0) (grow : (pid times : ℕ) → before pid times → after pid times) where
@@ -109,11 +109,11 @@ module _ {D : Type 0} (limit : ℕ) where
 far : (n j i word : ℕ) (words : List ℕ) → i ≤ n → (latch_at n (set words i word) j ≡ latch_at n words j) × (cancel_at n (set words i word) j ≡ cancel_at n words j)
 far n j i word words le = (get_or-set_other words i (n + 1 + j) word 0 (λ e. absurd (omega arith)), get_or-set_other words i (n + 1 + n + j) word 0 (λ e. absurd (omega arith)))
 
-same_answer : (a b : Result ℕ GateNo) → Some a ≡ Some b → a ≡ b
+same_answer : (a b : Attempt) → Some a ≡ Some b → a ≡ b
 same_answer a b e = cc
 
 -- a child that has gone to the gate
-pub hears_met : {D : Type 0} (limit : ℕ) (steps : List RosterStep) (x : ℕ → ℕ → Type 0) (latch : ℕ) (o : Offer D) (h : Heard) (answer : Result ℕ GateNo) → HearsRightly (doings steps limit) x latch o h
+pub hears_met : {D : Type 0} (limit : SessionLimit) (steps : List RosterStep) (x : ℕ → ℕ → Type 0) (latch : ℕ) (o : Offer D) (h : Heard) (answer : Attempt) → HearsRightly (doings steps limit) x latch o h
     → AnsweredBefore (doings steps limit) o answer
     → HearsRightly (doings steps limit) x latch o record h { met = Some answer }
 hears_met limit steps x latch o h answer r shown = record {
@@ -122,7 +122,7 @@ hears_met limit steps x latch o h answer r shown = record {
 }
 
 -- a child that has just started has heard nothing
-pub hears_first : {D : Type 0} (limit : ℕ) (steps : List RosterStep) (x : ℕ → ℕ → Type 0) (latch : ℕ) (o : Offer D) (cancel : ℕ) → ((p : ℕ) → x p 0) → (0 < cancel → x cancel 1) → latch_pid latch ≡ o.pid → ((number : ℕ) → number < 5 → bit_at latch number ≤ times_sent number (latch_pid latch) steps) → HearsRightly (doings steps limit) (beside x cancel) latch o no_signals
+pub hears_first : {D : Type 0} (limit : SessionLimit) (steps : List RosterStep) (x : ℕ → ℕ → Type 0) (latch : ℕ) (o : Offer D) (cancel : ℕ) → ((p : ℕ) → x p 0) → (0 < cancel → x cancel 1) → latch_pid latch ≡ o.pid → ((number : ℕ) → number < 5 → bit_at latch number ≤ times_sent number (latch_pid latch) steps) → HearsRightly (doings steps limit) (beside x cancel) latch o no_signals
 hears_first limit steps x latch o cancel none made is standing = record {
   so_far = record { sent = λ number. omega arith; cancels = first cancel o.pid x none made; shown = λ told e. absurd (cc) };
   still = λ number small. subst (λ (z : ℕ). 0 + bit_at latch number ≤ times_sent number z steps) is (omega (arith, standing number small));
@@ -385,11 +385,11 @@ module _ {D : Type 0} where
         (λ ne. let f : made' j p ≤ made j p = fewer j p ne in subst (λ (z : ℕ). p ≤ z) (sym (same j l ne).1) (ok.ahead j l p (omega arith) (omega arith)));
   }
 
-  abbrev blank : ℕ → Cell D
+  abbrev blank : SessionLimit → Cell D
   blank limit = record { phase = unused; seat = 0; post = idle_post limit }
 
   -- nothing was sent yet
-  pub first_latches : (n : ℕ) (words : List ℕ) (d : RosterView D) (limit : ℕ) → d.noticed ≡ None → d.notes.steps ≡ [] → ((k : ℕ) → k < n → latch_at n words k ≡ 0) → ((k : ℕ) → k < n → cancel_at n words k ≡ 0)
+  pub first_latches : (n : ℕ) (words : List ℕ) (d : RosterView D) (limit : SessionLimit) → d.noticed ≡ None → d.notes.steps ≡ [] → ((k : ℕ) → k < n → latch_at n words k ≡ 0) → ((k : ℕ) → k < n → cancel_at n words k ≡ 0)
       → Latches n words d (λ _. record { phase = unused; seat = 0; post = idle_post limit })
   first_latches n words d limit none steps latches cancels = record {
     each = λ k l. subst (λ (z : ℕ × ℕ). LatchOk d.notes.steps (WereMade n (λ _. blank limit)) (made_on n (λ _. blank limit) k) z.0 z.1 (blank limit))

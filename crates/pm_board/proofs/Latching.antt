@@ -13,7 +13,7 @@ use Rattle.pm_supervisor.specs.pm_exit.declared.child.Kind.{Kind}
 use Rattle.pm_keys.specs.CancelKey.{cancel_key}
 use Rattle.pm_supervisor.specs.declared.Reason.TheVariants as reason
 use Rattle.pm_child_life.specs.declared.life.Signals.{Signals}
-use Rattle.pm_board.{specs.{Slots.{child_slots, is_slot}, declared.views.{Cancel.Cancel, Heard.Heard, Offer.Offer, PastChild.PastChild, PostNotes.PostNotes, RosterStep.{RosterStep, TheVariants.Send}, RosterView.RosterView, Sight.TheVariants.{Unused, Opened, Assigned, Gathered}, Signal.Signal, SlotView.SlotView, Work.{Work, TheVariants.{Idle, Sees, Inactive, Active, Refused, Attached}}, PostView.PostView, View.{View, TheVariants.{Postmaster, Worker}}}, Words.{bit, flag}, Places.{slot_view, slot_at}, Gate.{GateOk, gate_of}, Latch.{latch_place, cancel_place, signal_number, latch_pid, armed_word, stands, quit_of, signals_at, is_crash, is_stop, is_given}, Latches.{times_made_on, made_on, CallsIn, LatchesOf, is_send, is_heard, times_sent, times_given, times_heard, Reaches, ReachesIn, OfUnreleased, doings, HeardRightly, HearsRightly, ArmedFor, OfRunning, EachHeard, HeardBy, beside, waiting, times_told, times_made, WereMade, LatchOk, latch_at, cancel_at, Latches}, Rule.{Phase, unused, opened, offered, running, ended, collected, gathered, Seen, Does, unreleased, Cell, put, at_put, used_pid}, Seats.is_gathered, History.Kept, Told.{Seated, past_child, with_slot, with_sight, with_notes, child_in, after_step, answered, noted_take, noted_heed, noted_latch_look, noted_cancel, Arms, Sends, Takes, Heeds, LooksAtLatch, Cancels}}, proofs.{BoardLaws.sent-append, Bits.bit_small, Counts.count_moves, Moves.{rebased, word_step, word_turn, slot_turn, St}, Gates.{uncounted, uncounted_notes, gate_moves, once_still}, Latches.{no_release, assigned-append, send_is_no_release, sends_nothing, sent_to_other, unreleased_all, unreleased_both, latch_here, heard-more, hears-more, running_map, each-map, cancels_stay, cancelled_more, latches_moved, latches_word, recount, count_same}, Seats.{seats_step, seats_turn, seats_still}, Histories.{kept, same_history, quiet, send_history, others_unsent}, Keeps.{at_phase, owned, see_unused, pids_drop, does_run, does_act, does_back, does_stay}}}
+use Rattle.pm_board.{specs.{Slots.{child_slots, is_slot}, declared.views.{SessionLimit.SessionLimit, Cancel.Cancel, Heard.Heard, Offer.Offer, PastChild.PastChild, PostNotes.PostNotes, RosterStep.{RosterStep, TheVariants.Send}, RosterView.RosterView, Sight.TheVariants.{Unused, Opened, Assigned, Gathered}, Signal.Signal, SlotView.SlotView, Work.{Work, TheVariants.{Idle, Sees, Inactive, Active, Refused, Attached}}, PostView.PostView, View.{View, TheVariants.{Postmaster, Worker}}}, Words.{bit, flag}, Places.{slot_view, slot_at}, Gate.{GateOk, gate_of}, Latch.{latch_place, cancel_place, signal_number, latch_pid, armed_word, stands, quit_of, signals_at, is_crash, is_stop, is_given}, Latches.{times_made_on, made_on, CallsIn, LatchesOf, is_send, is_heard, times_sent, times_given, times_heard, Reaches, ReachesIn, OfUnreleased, doings, HeardRightly, HearsRightly, ArmedFor, OfRunning, EachHeard, HeardBy, beside, waiting, times_told, times_made, WereMade, LatchOk, latch_at, cancel_at, Latches}, Rule.{Phase, unused, opened, offered, running, ended, collected, gathered, Seen, Does, unreleased, Cell, put, at_put, used_pid}, Seats.is_gathered, History.Kept, Told.{Seated, past_child, with_slot, with_sight, with_notes, child_in, after_step, answered, noted_take, noted_heed, noted_latch_look, noted_cancel, Arms, Sends, Takes, Heeds, LooksAtLatch, Cancels}}, proofs.{BoardLaws.sent-append, Bits.bit_small, Counts.count_moves, Moves.{rebased, word_step, word_turn, slot_turn, St}, Gates.{uncounted, uncounted_notes, gate_moves, once_still}, Latches.{no_release, assigned-append, send_is_no_release, sends_nothing, sent_to_other, unreleased_all, unreleased_both, latch_here, heard-more, hears-more, running_map, each-map, cancels_stay, cancelled_more, latches_moved, latches_word, recount, count_same}, Seats.{seats_step, seats_turn, seats_still}, Histories.{kept, same_history, quiet, send_history, others_unsent}, Keeps.{at_phase, owned, see_unused, pids_drop, does_run, does_act, does_back, does_stay}}}
 use Rattle.pm_board.specs.declared.views.Letter as Letter
 use Rattle.pm_board.specs.declared.views.Signal.TheVariants as signal
 
@@ -222,7 +222,7 @@ told-append : (xs : List Signals) (s : Signals) → times_told (xs ++ s ∷ []) 
 told-append [] s = omega arith
 told-append (y ∷ xs) s = let h : times_told (xs ++ s ∷ []) ≡ times_told xs + bit s.cancel = told-append xs s in omega arith
 
-module _ {D : Type 0} (limit : ℕ) (steps : List RosterStep) (x : ℕ → ℕ → Type 0) where
+module _ {D : Type 0} (limit : SessionLimit) (steps : List RosterStep) (x : ℕ → ℕ → Type 0) where
   -- a child has taken what stood
   hears_taken : (latch : ℕ) (o : Offer D) (h : Heard) → latch < 18446744073709551616 → HearsRightly (doings steps limit) x latch o h → HearsRightly (doings steps limit) x (bit_and latch 18446744073709551584) o (answered h (signals_at latch h.heeded))
   hears_taken latch o h full r = let s : Signals = signals_at latch h.heeded in record {
@@ -300,7 +300,7 @@ module _ (steps : List RosterStep) (x : ℕ → ℕ → Type 0) (made : ℕ → 
     abbrev latch' : ℕ
     latch' = bit_or latch (2 ^ signal_number s)
 
-    sent_now : {D : Type 0} (limit : ℕ) (ph : Phase D) (h : Heard) → latch_pid latch ≡ pid → ArmedFor (latch_pid latch) ph → OfRunning (λ o. HearsRightly (doings steps limit) (beside x cancel) latch o h) ph → OfRunning (λ o. HearsRightly (doings after limit) (beside x cancel) latch' o h) ph
+    sent_now : {D : Type 0} (limit : SessionLimit) (ph : Phase D) (h : Heard) → latch_pid latch ≡ pid → ArmedFor (latch_pid latch) ph → OfRunning (λ o. HearsRightly (doings steps limit) (beside x cancel) latch o h) ph → OfRunning (λ o. HearsRightly (doings after limit) (beside x cancel) latch' o h) ph
     sent_now limit unused h is armed r = tt
     sent_now limit (opened q) h is armed r = tt
     sent_now limit (offered o) h is armed r = tt
@@ -363,7 +363,7 @@ module _ (steps : List RosterStep) (x y : ℕ → ℕ → Type 0) (pid : ℕ) (g
           (λ le. let e : max c pid ≡ pid = omega arith in let z : waiting (max c pid) p ≡ 0 = ap (λ (q : ℕ). waiting q p) e ∙ other pid p ne in omega arith)
           (λ gt. let e : max c pid ≡ c = omega arith in let z : waiting (max c pid) p ≡ waiting c p = ap (λ (q : ℕ). waiting q p) e in omega arith)
 
-  heard_raised : {D : Type 0} (limit c : ℕ) (o : Offer D) (h : Heard) → HeardRightly (doings steps limit) (beside x c) o h → HeardRightly (doings steps limit) (beside y (max c pid)) o h
+  heard_raised : {D : Type 0} (limit : SessionLimit) (c : ℕ) (o : Offer D) (h : Heard) → HeardRightly (doings steps limit) (beside x c) o h → HeardRightly (doings steps limit) (beside y (max c pid)) o h
   heard_raised limit c o h r = record { sent = r.sent; cancels = raised c o.pid (times_told h.given + bit h.heeded) r.cancels; shown = r.shown }
 
   -- the cancel for this pid stands, and what stood for others stays
@@ -420,7 +420,7 @@ no_more {D} n k j p x cells c w near is more other =
     let all : sum_below n (λ i. F (put cells k c i).post) + F w ≡ sum_below n (λ i. F (cells i).post) + F c.post = count_moves F cells n k c w near is in
     let up : F c.post ≡ F w + bit ((x.slot == j) && (x.pid == p)) = ap (times_made_on j p) more ∙ on-append j p w.notes.cancels x in let none_ : bit ((x.slot == j) && (x.pid == p)) ≡ 0 = not_both x.slot j x.pid p other in omega arith
 
-module _ {J D : Type 0} (letter : Letter.Ghosts J D) (limit : ℕ) where
+module _ {J D : Type 0} (letter : Letter.Ghosts J D) (limit : SessionLimit) where
   -- what a step owes
   abbrev Owes : (s : St letter) (id i : ℕ) (me : Seated J D) (f : ℕ → ℕ) (tells : ℕ → Seated J D → Type 0) → Type 0
   Owes s id i me f tells = (v : View D) × (a : Act (Option J)) × Valid s.homes me.1 a × Kept letter limit (stepped s i (f (get_or s.words i 0)) id me.1 v a) × tells (get_or s.words i 0) (v, carried_after me.1 a)
@@ -568,8 +568,8 @@ module _ {J D : Type 0} (letter : Letter.Ghosts J D) (limit : ℕ) where
         fits = l.fits;
         standing = l.standing;
         cancel_is = l.cancel_is;
-        now = subst (λ (z : ℕ × Heard). OfRunning (λ o. HearsRightly (doings r.1.notes.steps z.0) (beside (WereMade n r.2) (cancel_at n s.words k)) (latch_at n s.words k) o z.1) (r.2 k).phase) {x = (w.notes.session_limit, w.notes.now)} {y = (notes.session_limit, notes.now)} (λ u. (sym lim u, sym now u)) l.now;
-        past = subst (λ (z : ℕ × List Heard). EachHeard (HeardBy (doings r.1.notes.steps z.0) (beside (WereMade n r.2) (cancel_at n s.words k))) w.past z.1) {x = (w.notes.session_limit, w.notes.heard)} {y = (notes.session_limit, notes.heard)} (λ u. (sym lim u, sym heard u)) l.past;
+        now = subst (λ (z : SessionLimit × Heard). OfRunning (λ o. HearsRightly (doings r.1.notes.steps z.0) (beside (WereMade n r.2) (cancel_at n s.words k)) (latch_at n s.words k) o z.1) (r.2 k).phase) {x = (w.notes.session_limit, w.notes.now)} {y = (notes.session_limit, notes.now)} (λ u. (sym lim u, sym now u)) l.now;
+        past = subst (λ (z : SessionLimit × List Heard). EachHeard (HeardBy (doings r.1.notes.steps z.0) (beside (WereMade n r.2) (cancel_at n s.words k))) w.past z.1) {x = (w.notes.session_limit, w.notes.heard)} {y = (notes.session_limit, notes.heard)} (λ u. (sym lim u, sym heard u)) l.past;
         unreleased = l.unreleased;
         named = l.named;
         keyed = keys;

@@ -6,7 +6,7 @@ use Rattle.std.specs.{Prelude.{Bool, true, false, ◌&&◌, if◌then◌else◌,
 use Rattle.atomic_table.specs.Table.{State}
 use Rattle.pm_facts.specs.Numbers.{sum_below}
 use Rattle.pm_supervisor.{specs.{pm_exit.declared.child.Kind.Kind, declared.Reason.Reason, Children.{Child, is_session, is_startup_child, child_of, without, marked, one_if, count_of, attached_sessions}, Supervisor.Shared, Shared.{SharedEvent, Notice, Open, Reset, Allows, after_shared}}, proofs.CountLaws.at_most_one}
-use Rattle.pm_board.{specs.{Slots.child_slots, declared.views.{Offer.Offer, PostStep.PostStep, RosterStep.RosterStep, RosterView.RosterView, Work.{Work, TheVariants.{Idle, Sees, Inactive, Active, Refused, Attached}}, View.View}, Words.bit, Gate.{attached, gate_of}, Rule.{Phase, unused, opened, offered, running, ended, collected, gathered, Does, Cell, Holds, put, at_put}, Told.after_step, History.{goes_on, supervisor_event, worker_event, leave_of, event_of, worker_step, living, is_attached, shown_child, ShowsChild, Shows, OwnPart, pid_and_kind, History}}, proofs.Histories.{child_hit, child_miss, without_hit, without_miss, without_other, Once, none_in, once_left, own_step, own_worker, own_part, other_part, no_part, shows_moves, pids_apart}}
+use Rattle.pm_board.{specs.{Slots.child_slots, declared.views.{SessionLimit.SessionLimit, Offer.Offer, PostStep.PostStep, RosterStep.RosterStep, RosterView.RosterView, Work.{Work, TheVariants.{Idle, Sees, Inactive, Active, Refused, Attached}}, View.View}, Words.bit, Gate.{attached, gate_of}, Rule.{Phase, unused, opened, offered, running, ended, collected, gathered, Does, Cell, Holds, put, at_put}, Told.after_step, History.{KeepsPlaces, goes_on, supervisor_event, worker_event, leave_of, event_of, worker_step, living, is_attached, shown_child, ShowsChild, Shows, OwnPart, pid_and_kind, History}}, proofs.Histories.{child_hit, child_miss, without_hit, without_miss, without_other, Once, none_in, once_left, own_step, own_worker, own_part, other_part, no_part, shows_moves, pids_apart}}
 use Rattle.pm_board.specs.declared.views.Letter as Letter
 use Rattle.pm_board.specs.declared.views.RosterStep.TheVariants as step
 
@@ -150,38 +150,38 @@ module _ {D : Type 0} where
       let same : Some (shown_child o (is_attached w)) ≡ Some c = sym (ap (λ (z : ℕ). child_of z cs) (sym here) ∙ shown) ∙ found in let it : shown_child o (is_attached w) ≡ c = cc in subst (λ (z : Child). P z.kind) it (runs o a refl)
 
   -- a step of the supervisor at the gate
-  turns : (limit n : ℕ) (d : RosterView D) (cells : ℕ → Cell D) (s : RosterStep) (e : SharedEvent) (st : History limit d cells n) → Allows limit st.1 e → supervisor_event e ≡ event_of s → worker_event e ≡ [] → leave_of e ≡ []
+  turns : (limit : SessionLimit) (n : ℕ) (d : RosterView D) (cells : ℕ → Cell D) (s : RosterStep) (e : SharedEvent) (st : History limit d cells n) → Allows limit.most st.1 e → KeepsPlaces limit e → supervisor_event e ≡ event_of s → worker_event e ≡ [] → leave_of e ≡ []
       → Shows (after_shared st.1 e) (after_step d s) cells n → History limit (after_step d s) cells n
-  turns limit n d cells s e st may is none none' shows = (
+  turns limit n d cells s e st may keeps is none none' shows = (
     st.0 ++ record { event = e; slot = n } ∷ [],
     after_shared st.1 e,
-    goes_on st.0 st.1 record { event = e; slot = n } st.2 may,
+    goes_on st.0 st.1 record { event = e; slot = n } st.2 may keeps,
     shows,
     own_step st.0 d.notes.steps (gate_of d) n e s is st.4,
     λ j l. no_part st.0 j n e (cells j).post (cells j).post none none' refl refl (st.5 j l),
   )
 
-  pub quit_history : (limit n : ℕ) (d : RosterView D) (cells : ℕ → Cell D) (why : Reason) → History limit d cells n → History limit (after_step d (step.Quit why d.generation)) cells n
-  quit_history limit n d cells why st = turns limit n d cells (step.Quit why d.generation) (Notice why) st tt refl refl refl
+  pub quit_history : (limit : SessionLimit) (n : ℕ) (d : RosterView D) (cells : ℕ → Cell D) (why : Reason) → History limit d cells n → History limit (after_step d (step.Quit why d.generation)) cells n
+  quit_history limit n d cells why st = turns limit n d cells (step.Quit why d.generation) (Notice why) st tt tt refl refl refl
       record { generation = st.3.generation; is_open = st.3.is_open; noticed = refl; last_pid = st.3.last_pid; each = st.3.each; no_other = st.3.no_other; once = st.3.once }
 
-  pub ready_history : (limit n : ℕ) (d : RosterView D) (cells : ℕ → Cell D) (st : History limit d cells n) → d.is_open ≡ false → ((k : ℕ) → k < n → Does (cells k).phase (cells k).post.work) → sum_below n (λ k. attached is_session (cells k).post.work) ≡ 0
+  pub ready_history : (limit : SessionLimit) (n : ℕ) (d : RosterView D) (cells : ℕ → Cell D) (st : History limit d cells n) → d.is_open ≡ false → ((k : ℕ) → k < n → Does (cells k).phase (cells k).post.work) → sum_below n (λ k. attached is_session (cells k).post.work) ≡ 0
       → ((k : ℕ) (o : Offer D) → k < n → (cells k).phase ≡ offered o → is_startup_child o.kind ≡ false) → ((k : ℕ) (o : Offer D) (a : Bool) → k < n → (cells k).phase ≡ running o a → is_startup_child o.kind ≡ false)
       → History limit (after_step d (step.Ready d.generation)) cells n
   ready_history limit n d cells st shut does nobody offers runs = let h = st.3 in
       let few : attached_sessions st.1.children ≤ sum_below n (λ k. attached is_session (cells k).post.work) = shown_attached n d cells st.1 h does in
       let startups = count_none is_startup_child st.1.children (listed (λ c. is_startup_child c.kind ≡ false) st.1.children
       (λ p c found. let at_k = h.no_other p c found in kind_there (λ kind. is_startup_child kind ≡ false) st.1.children (cells at_k.0).phase (cells at_k.0).post.work p c (h.each at_k.0 at_k.1) at_k.2 at_k.3 found (λ o is. offers at_k.0 o at_k.1 is) (λ o a is. runs at_k.0 o a at_k.1 is)) h.once) in
-      turns limit n d cells (step.Ready d.generation) Open st (h.is_open ∙ shut, startups, omega arith) refl refl refl
+      turns limit n d cells (step.Ready d.generation) Open st (h.is_open ∙ shut, startups, omega arith) tt refl refl refl
       record { generation = h.generation; is_open = refl; noticed = refl; last_pid = h.last_pid; each = h.each; no_other = h.no_other; once = h.once }
 
-  pub reset_history : (limit n : ℕ) (d : RosterView D) (cells : ℕ → Cell D) → ((k : ℕ) → k < n → living (cells k).phase ≡ 0) → History limit d cells n → History limit (after_step d (step.Reset (d.generation + 1))) cells n
+  pub reset_history : (limit : SessionLimit) (n : ℕ) (d : RosterView D) (cells : ℕ → Cell D) → ((k : ℕ) → k < n → living (cells k).phase ≡ 0) → History limit d cells n → History limit (after_step d (step.Reset (d.generation + 1))) cells n
   reset_history limit n d cells dead st = let h = st.3 in
       turns limit n d cells (step.Reset (d.generation + 1)) Reset st
-      (none_at_all st.1.children (λ p c found. let at_k = h.no_other p c found in let z : living (cells at_k.0).phase ≡ 0 = dead at_k.0 at_k.1 in let here : living (cells at_k.0).phase ≡ p = at_k.2 in let pos : 0 < p = at_k.3 in absurd (omega arith))) refl refl refl
+      (none_at_all st.1.children (λ p c found. let at_k = h.no_other p c found in let z : living (cells at_k.0).phase ≡ 0 = dead at_k.0 at_k.1 in let here : living (cells at_k.0).phase ≡ p = at_k.2 in let pos : 0 < p = at_k.3 in absurd (omega arith))) tt refl refl refl
       record { generation = ap (λ (z : ℕ). z + 1) h.generation; is_open = refl; noticed = refl; last_pid = h.last_pid; each = h.each; no_other = h.no_other; once = h.once }
 
-module _ {J D : Type 0} (letter : Letter.Ghosts J D) (limit : ℕ) where
+module _ {J D : Type 0} (letter : Letter.Ghosts J D) (limit : SessionLimit) where
   -- a child that runs has a pid
   pub lives : (s : State (Option J) (View D)) (m : ℕ) (d : RosterView D) (cells : ℕ → Cell D) → Holds letter m d cells s → (st : History limit d cells (child_slots (length s.homes))) → (k : ℕ) → k < child_slots (length s.homes) → (o : Offer D) (a : Bool) (w : Work D) → (cells k).phase ≡ running o a → (cells k).post.work ≡ w
       → (child_of o.pid st.1.children ≡ Some (shown_child o (is_attached w))) × (0 < o.pid)
@@ -190,15 +190,15 @@ module _ {J D : Type 0} (letter : Letter.Ghosts J D) (limit : ℕ) where
   -- a child attaches or detaches
   pub passes : (s : State (Option J) (View D)) (m : ℕ) (d : RosterView D) (cells : ℕ → Cell D) → Holds letter m d cells s → (st : History limit d cells (child_slots (length s.homes))) → (k : ℕ) → k < child_slots (length s.homes) → (o : Offer D) (b : Bool) (w : Work D) (c : Cell D) (e : SharedEvent) (p : PostStep)
       → (cells k).phase ≡ running o true → (cells k).post.work ≡ w → c.phase ≡ running o true → is_attached c.post.work ≡ b
-      → Allows limit st.1 e → after_shared st.1 e ≡ record st.1 { children = marked o.pid b st.1.children } → supervisor_event e ≡ [] → worker_event e ≡ worker_step p ∷ [] → leave_of e ≡ []
+      → Allows limit.most st.1 e → KeepsPlaces limit e → after_shared st.1 e ≡ record st.1 { children = marked o.pid b st.1.children } → supervisor_event e ≡ [] → worker_event e ≡ worker_step p ∷ [] → leave_of e ≡ []
       → c.post.notes.steps ≡ (cells k).post.notes.steps ++ p ∷ [] → c.post.past ≡ (cells k).post.past → History limit d (put cells k c) (child_slots (length s.homes))
-  passes s m d cells h st k near o b w c e p is does is' now may after none event none' steps past =
+  passes s m d cells h st k near o b w c e p is does is' now may keeps after none event none' steps past =
       let x : Shared = st.1 in let q : ℕ = o.pid in let here : living (cells k).phase ≡ q = ap living is in
       let known = lives s m d cells h st k near o true w is does in let pos : 0 < q = known.1 in
       let found = marked_here q b x.children _ known.0 ∙ ap (λ (z : Bool). Some (shown_child o z)) (sym now) in (
         st.0 ++ record { event = e; slot = k } ∷ [],
         after_shared x e,
-        goes_on st.0 x record { event = e; slot = k } st.2 may,
+        goes_on st.0 x record { event = e; slot = k } st.2 may keeps,
         subst (λ (z : Shared). Shows z d (put cells k c) (child_slots (length s.homes))) (sym after)
             (shows_moves x (record x { children = marked q b x.children }) d d cells (child_slots (length s.homes)) k q c st.3 near pos
             record { generation = st.3.generation; is_open = st.3.is_open; noticed = st.3.noticed; last_pid = st.3.last_pid }

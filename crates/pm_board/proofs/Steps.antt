@@ -8,8 +8,8 @@ use prog.Atomic.{either}
 use Rattle.atomic_table.specs.{Table.{step, rest, opening, Allows, Joins, Splits}, Seated.TableId}
 use Rattle.pm_facts.specs.Lists.{set_set, same_everywhere}
 use Rattle.pm_supervisor.specs.{pm_exit.declared.child.{Kind.Kind, Status.Status}, declared.Reason.Reason, Children.{is_session, is_dead_end}}
-use Rattle.pm_child_life.specs.declared.life.GateNo.{GateNo}
-use Rattle.pm_board.{specs.{Slots.{all_slots, child_slots}, declared.views.{Cancel.Cancel, Offer.Offer, PastChild.PastChild, PostNotes.PostNotes, RosterNotes.RosterNotes, Sight.{Sight, TheVariants.{Unused, Opened, Assigned, Exited, Collected}}, Signal.Signal, SlotView.SlotView, RosterView.RosterView, Work.{Work, TheVariants.{Idle, Sees, Inactive, Active, Refused, Attached}}, PostView.PostView, View.{View, TheVariants.{Postmaster, Worker, Spent}}}, Words.{exit_step, stage_in, active_in, kind_in, status_in, pid_in, status_number, bit}, Places.{slot_view, slot_at, is_auxiliary, lost, SlotServes, EndsWell, is_used, used_in}, Children.children_of, Gate.{place_of, gate_answer}, Latch.{latch_place, cancel_place, armed_word, signal_number}, Rule.{child_word, offer_word}, History.Kept, Told.{Seated, MayEnd, roster_of, post_of, post_view, with_notes, child_in, past_child, with_slot, with_sight, assigned_slot, running_slot, exited_slot, noted_assign, noted_release, noted_look, noted_exit, Arms, Sends, Takes, Heeds, LooksAtLatch, Cancels, Assigns, Loads, Starts, Ends, Looks, Releases, Clears, Compares, Marks, Unmarks, Tries, BacksOut, Detaches, Quits, Readies, Resets, tried, tried_by, MayQuit, quit_step, ready_step, new_gate, reposted, taken_in, dealt_more, next_post, newcomer}, Models.{HoldsMail, MayOpen, MayReset, RunsKind, RunsPid, IsWholePost, IsWholeRoster, SlotBecame}}, proofs.{Bits.{pid_again, kind_read, status_read, active_again}, Children.children_same, BoardLaws.bit_small}}
+use Rattle.pm_child_life.specs.{declared.life.GateNo.{GateNo}, Life.attempt}
+use Rattle.pm_board.{specs.{Slots.{all_slots, child_slots}, declared.views.{SessionLimit.SessionLimit, Cancel.Cancel, Offer.Offer, PastChild.PastChild, PostNotes.PostNotes, RosterNotes.RosterNotes, Sight.{Sight, TheVariants.{Unused, Opened, Assigned, Exited, Collected}}, Signal.Signal, SlotView.SlotView, RosterView.RosterView, Work.{Work, TheVariants.{Idle, Sees, Inactive, Active, Refused, Attached}}, PostView.PostView, View.{View, TheVariants.{Postmaster, Worker, Spent}}}, Words.{exit_step, stage_in, active_in, kind_in, status_in, pid_in, status_number, bit}, Places.{slot_view, slot_at, is_auxiliary, lost, SlotServes, EndsWell, is_used, used_in}, Children.children_of, Gate.{place_of, gate_answer}, Latch.{latch_place, cancel_place, armed_word, signal_number}, Rule.{child_word, offer_word}, History.Kept, Told.{Seated, MayEnd, roster_of, post_of, post_view, with_notes, child_in, past_child, with_slot, with_sight, assigned_slot, running_slot, exited_slot, noted_assign, noted_release, noted_look, noted_exit, Arms, Sends, Takes, Heeds, LooksAtLatch, Cancels, Assigns, Loads, Starts, Ends, Looks, Releases, Clears, Compares, Marks, Unmarks, Tries, BacksOut, Detaches, Quits, Readies, Resets, tried, tried_by, MayQuit, quit_step, ready_step, new_gate, reposted, taken_in, dealt_more, next_post, newcomer}, Models.{HoldsMail, MayOpen, MayReset, RunsKind, RunsPid, IsWholePost, IsWholeRoster, SlotBecame}}, proofs.{Bits.{pid_again, kind_read, status_read, active_again}, Children.children_same, BoardLaws.bit_small}}
 use Rattle.pm_board.specs.declared.views.Letter as Letter
 use Rattle.pm_keys.specs.CancelKey.{cancel_key}
 use Rattle.pm_board.proofs.Keeps as keep
@@ -69,7 +69,7 @@ module _ {D : Type 0} where
 abbrev pub new_words : ℕ → List ℕ
 new_words n = set (replicate (3 * n + 1) 0) n 134217728
 
-module _ {J D : Type 0} (letter : Letter.Ghosts J D) (limit : ℕ) where
+module _ {J D : Type 0} (letter : Letter.Ghosts J D) (limit : SessionLimit) where
   pub assigns_as : (n id k word : ℕ) (o : Offer D) (me : Seated J D) (d : RosterView D) (j : J) → me ≡ (Postmaster d, (k, Some j) ∷ []) → word ≡ offer_word o → k < child_slots n → (slot_at d k).sight ≡ Opened o.pid → d.notes.last_pid < o.pid → o.pid < 2147483648 → SlotServes (child_slots n) k o.kind → o.generation ≡ d.generation → o.given ≡ letter.told j → letter.fits j o.kind → (is_auxiliary o.kind ≡ true → lost is_auxiliary d.generation (slot_at d k).past ≡ 0)
       → Allows (Kept letter limit) n id me k (λ _. word) (λ _. Assigns letter (step n k word 0 none) me word)
   assigns_as n id k word o me d j is w near sight new low serves now gave fit alone = subst (λ (z : Seated J D × ℕ). Allows (Kept letter limit) n id z.0 k (λ _. z.1) (λ _. Assigns letter (step n k z.1 0 none) z.0 z.1)) (λ i. (sym is i, sym w i)) (keep.assigns letter limit n id k o d j near sight new low serves now gave fit alone)
@@ -102,25 +102,25 @@ module _ {J D : Type 0} (letter : Letter.Ghosts J D) (limit : ℕ) where
   pub deals_as : (id : ℕ) (v : View D) (d : RosterView D) → v ≡ Postmaster d → d.dealt < length d.slots → Splits (Kept letter limit) id v (dealt_more v) (next_post v)
   deals_as id v d is less = subst (λ (z : View D). Splits (Kept letter limit) id z (dealt_more z) (next_post z)) (sym is) (keep.deals letter limit id d less)
 
-  pub begins_as : (n m l : ℕ) (words : List ℕ) → words ≡ new_words n → m ≡ n → l ≡ limit → n ≤ 407 → limit ≤ 200 → Kept letter limit (opening words (replicate n None) (newcomer m l))
-  begins_as n m l words is same lim few most = subst (λ (z : ℕ × ℕ × List ℕ). Kept letter limit (opening z.2 (replicate n None) (newcomer z.0 z.1))) (λ i. (sym same i, sym lim i, sym is i))
+  pub begins_as : (n m : ℕ) (l : SessionLimit) (words : List ℕ) → words ≡ new_words n → m ≡ n → l ≡ limit → n ≤ 407 → limit.most ≤ 200 → Kept letter limit (opening words (replicate n None) (newcomer m l))
+  begins_as n m l words is same lim few most = subst (λ (z : ℕ × SessionLimit × List ℕ). Kept letter limit (opening z.2 (replicate n None) (newcomer z.0 z.1))) (λ i. (sym same i, sym lim i, sym is i))
       (keep.begins letter limit n n (new_words n) (all_slots n) (length-set (replicate (3 * n + 1) 0) n 134217728 ∙ length-replicate (3 * n + 1) 0)
       (λ k ne. get_or-set_other (replicate (3 * n + 1) 0) n k 134217728 0 (λ e. ne e) ∙ same_everywhere (3 * n + 1) k 0)
       (get_or-set_same (replicate (3 * n + 1) 0) n 134217728 0 (subst (λ (z : ℕ). n < z) (sym (length-replicate (3 * n + 1) 0)) (omega arith))) few most)
 
 -- the steps at the gate
 
-module _ {J D : Type 0} (letter : Letter.Ghosts J D) (limit : ℕ) where
+module _ {J D : Type 0} (letter : Letter.Ghosts J D) (limit : SessionLimit) where
   pub marks_as : (n id k : ℕ) (o : Offer D) (notes : PostNotes) (past : List (PastChild D)) (c : List (ℕ × Option J)) (me : Seated J D) → me ≡ (Worker k (post_view notes past (Inactive o)), c) → Allows (Kept letter limit) n id me k (λ x. (x + 8) % 2 ^ 64) (Marks (step n k 8 0 none) me)
   marks_as n id k o notes past c me is = subst (λ (m : Seated J D). Allows (Kept letter limit) n id m k (λ x. (x + 8) % 2 ^ 64) (Marks (step n k 8 0 none) m)) (sym is) (gate.marks letter limit n id k o notes past c)
 
   pub unmarks_as : (n id k : ℕ) (o : Offer D) (notes : PostNotes) (past : List (PastChild D)) (c : List (ℕ × Option J)) (me : Seated J D) → me ≡ (Worker k (post_view notes past (Active o)), c) → Allows (Kept letter limit) n id me k (λ x. (x + (2 ^ 64 - 8)) % 2 ^ 64) (Unmarks (step n k 8 0 none) me)
   unmarks_as n id k o notes past c me is = subst (λ (m : Seated J D). Allows (Kept letter limit) n id m k (λ x. (x + (2 ^ 64 - 8)) % 2 ^ 64) (Unmarks (step n k 8 0 none) m)) (sym is) (gate.unmarks letter limit n id k o notes past c)
 
-  pub tries_as : (n i id k add : ℕ) (o : Offer D) (notes : PostNotes) (past : List (PastChild D)) (c : List (ℕ × Option J)) (me : Seated J D) → i ≡ child_slots n → add ≡ place_of (is_session o.kind) → is_dead_end o.kind ≡ false → me ≡ (Worker k (post_view notes past (Active o)), c)
-      → Allows (Kept letter limit) n id me i (λ x. (x + add) % 2 ^ 64) (Tries (step n i add 0 none) me)
-  tries_as n i id k add o notes past c me there adds lives is = subst (λ (z : Seated J D × ℕ × ℕ). Allows (Kept letter limit) n id z.0 z.1 (λ x. (x + z.2) % 2 ^ 64) (Tries (step n z.1 z.2 0 none) z.0)) (λ j. (sym is j, sym there j, sym adds j))
-      (gate.tries letter limit n id k o notes past c lives)
+  pub tries_as : (is_ordinary : Bool) (n i id k add : ℕ) (o : Offer D) (notes : PostNotes) (past : List (PastChild D)) (c : List (ℕ × Option J)) (me : Seated J D) → i ≡ child_slots n → add ≡ place_of (is_session o.kind) → is_dead_end o.kind ≡ false → me ≡ (Worker k (post_view notes past (Active o)), c)
+      → Allows (Kept letter limit) n id me i (λ x. (x + add) % 2 ^ 64) (Tries is_ordinary (step n i add 0 none) me)
+  tries_as is_ordinary n i id k add o notes past c me there adds lives is = subst (λ (z : Seated J D × ℕ × ℕ). Allows (Kept letter limit) n id z.0 z.1 (λ x. (x + z.2) % 2 ^ 64) (Tries is_ordinary (step n z.1 z.2 0 none) z.0)) (λ j. (sym is j, sym there j, sym adds j))
+      (gate.tries letter limit is_ordinary n id k o notes past c lives)
 
   pub backs_out_as : (n i id k takes g : ℕ) (o : Offer D) (notes : PostNotes) (past : List (PastChild D)) (c : List (ℕ × Option J)) (me : Seated J D) → i ≡ child_slots n → takes ≡ place_of (is_session o.kind) → me ≡ (Worker k (post_view notes past (Refused o g)), c)
       → Allows (Kept letter limit) n id me i (λ x. (x + (2 ^ 64 - takes)) % 2 ^ 64) (BacksOut (step n i takes 0 none) me)
@@ -144,7 +144,7 @@ module _ {J D : Type 0} (letter : Letter.Ghosts J D) (limit : ℕ) where
 
 -- the steps at latches and cancels
 
-module _ {J D : Type 0} (letter : Letter.Ghosts J D) (limit : ℕ) where
+module _ {J D : Type 0} (letter : Letter.Ghosts J D) (limit : SessionLimit) where
   pub arms_as : (n i id k word pid : ℕ) (d : RosterView D) (me : Seated J D) → i ≡ latch_place (child_slots n) k → word ≡ armed_word pid → me ≡ (Postmaster d, []) → k < child_slots n → pid < 2147483648 → (slot_at d k).sight ≡ Unused → Allows (Kept letter limit) n id me i (λ _. word) (Arms (step n i word 0 none) me)
   arms_as n i id k word pid d me there word_is is near low sight = subst (λ (z : Seated J D × ℕ × ℕ). Allows (Kept letter limit) n id z.0 z.1 (λ _. z.2) (Arms (step n z.1 z.2 0 none) z.0)) (λ j. (sym is j, sym there j, sym word_is j))
       (latch.arms letter limit n id k pid d near low sight)
@@ -228,7 +228,7 @@ module _ {J D : Type 0} where
   doing_at k me w c is does has = λ i. ((is ∙ (λ j. Worker k (post_view (post_of me.0).notes (post_of me.0).past (does j)))) i, has i)
 
   -- the post is whole again
-  pub post_sealed : (b t t' : TableId) (k limit : ℕ) (kind : Kind) (pid : ℕ) (me : Seated J D) (w : PostView D) (c : List (ℕ × Option J)) → b ≡ t → t' ≡ t → t.words ≡ 3 * child_slots t.slots + 1 → k < child_slots t.slots → me ≡ (Worker k w, c) → HoldsMail k w.work c → RunsKind kind w.work → limit ≡ w.notes.session_limit → RunsPid pid w.work → t.slots ≤ 407
+  pub post_sealed : (b t t' : TableId) (k : ℕ) (limit : SessionLimit) (kind : Kind) (pid : ℕ) (me : Seated J D) (w : PostView D) (c : List (ℕ × Option J)) → b ≡ t → t' ≡ t → t.words ≡ 3 * child_slots t.slots + 1 → k < child_slots t.slots → me ≡ (Worker k w, c) → HoldsMail k w.work c → RunsKind kind w.work → limit ≡ w.notes.session_limit → RunsPid pid w.work → t.slots ≤ 407
       → IsWholePost b t' k kind pid limit me
   post_sealed b t t' k limit kind pid me w c e f ws l is has runs most named few = (
     e ∙ sym f,
@@ -243,13 +243,13 @@ module _ {J D : Type 0} where
   )
 
   -- and after a try at the gate, whatever the answer
-  pub tried_sealed : (b t t' : TableId) (k limit : ℕ) (kind : Kind) (pid : ℕ) (me : Seated J D) (w : PostView D) (o : Offer D) (word : ℕ) (c : List (ℕ × Option J)) → b ≡ t → t' ≡ t → t.words ≡ 3 * child_slots t.slots + 1 → k < child_slots t.slots → me ≡ (Worker k (tried w o word), c) → c ≡ (k, None) ∷ [] → kind ≡ o.kind → limit ≡ w.notes.session_limit → pid ≡ o.pid → t.slots ≤ 407
+  pub tried_sealed : (b t t' : TableId) (k : ℕ) (limit : SessionLimit) (kind : Kind) (pid : ℕ) (me : Seated J D) (w : PostView D) (o : Offer D) (is_ordinary : Bool) (word : ℕ) (c : List (ℕ × Option J)) → b ≡ t → t' ≡ t → t.words ≡ 3 * child_slots t.slots + 1 → k < child_slots t.slots → me ≡ (Worker k (tried w o is_ordinary word), c) → c ≡ (k, None) ∷ [] → kind ≡ o.kind → limit ≡ w.notes.session_limit → pid ≡ o.pid → t.slots ≤ 407
       → IsWholePost b t' k kind pid limit me
-  tried_sealed b t t' k limit kind pid me w o word c e f ws l is has runs most named few = go (gate_answer o.kind w.notes.session_limit word) is
+  tried_sealed b t t' k limit kind pid me w o is_ordinary word c e f ws l is has runs most named few = go (gate_answer o.kind is_ordinary w.notes.session_limit word) is
     where
-      go : (a : Result ℕ GateNo) → me ≡ (Worker k (tried_by w o word a), c) → IsWholePost b t' k kind pid limit me
-      go (Ok g) at = post_sealed b t t' k limit kind pid me (tried_by w o word (Ok g)) c e f ws l at has runs most named few
-      go (Err refusal) at = post_sealed b t t' k limit kind pid me (tried_by w o word (Err refusal)) c e f ws l at has runs most named few
+      go : (a : Result ℕ GateNo) → me ≡ (Worker k (tried_by w o word (attempt is_ordinary a)), c) → IsWholePost b t' k kind pid limit me
+      go (Ok g) at = post_sealed b t t' k limit kind pid me (tried_by w o word (attempt is_ordinary (Ok g))) c e f ws l at has runs most named few
+      go (Err refusal) at = post_sealed b t t' k limit kind pid me (tried_by w o word (attempt is_ordinary (Err refusal))) c e f ws l at has runs most named few
 
   -- a worker whose child may end holds its empty mail slot
   pub holds_none : (k : ℕ) (w : Work D) (c : List (ℕ × Option J)) (o : Offer D) (a : Bool) → HoldsMail k w c → MayEnd w o a → c ≡ (k, None) ∷ []

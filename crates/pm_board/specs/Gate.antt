@@ -3,8 +3,8 @@ use Rattle.std.specs.Prelude.{◌≡◌, ℕ, zero, suc, ◌+◌, ◌*◌, ◌/�
 use Rattle.pm_facts.specs.Numbers.{sum_below}
 use Rattle.pm_supervisor.specs.{pm_exit.declared.child.Kind.Kind, declared.Reason.Reason, Children.{is_session, is_dead_end}}
 use Rattle.pm_supervisor.specs.declared.Reason.TheVariants as reason
-use Rattle.pm_board.specs.{declared.views.{PastChild.PastChild, RosterStep.{RosterStep, TheVariants.{Assign, Release, Quit, Ready, Reset, Send}}, RosterView.RosterView, Work.{Work, TheVariants.{Idle, Sees, Inactive, Active, Refused, Attached}}, PostView.PostView}, Words.{bit, flag}, Places.{is_auxiliary, lost}, Rule.{Cell, OfLiving}}
-use Rattle.pm_child_life.specs.declared.life.GateNo.{GateNo}
+use Rattle.pm_board.specs.{declared.views.{SessionLimit.SessionLimit, PastChild.PastChild, RosterStep.{RosterStep, TheVariants.{Assign, Release, Quit, Ready, Reset, Send}}, RosterView.RosterView, Work.{Work, TheVariants.{Idle, Sees, Inactive, Active, Refused, Attached}}, PostView.PostView}, Words.{bit, flag}, Places.{is_auxiliary, lost}, Rule.{Cell, OfLiving}}
+use Rattle.pm_child_life.specs.declared.life.{Attempt.Attempt, GateNo.GateNo}
 use Rattle.pm_child_life.specs.declared.life.GateNo.TheVariants as gate_no
 
 -- what the supervisor has made of the gate
@@ -79,27 +79,45 @@ abbrev pub place_of : Bool → ℕ
 place_of true = 1
 place_of false = 4096
 
--- Whether a child is let in that meets this word, where so many sessions may be attached. A session needs an open gate and
--- room; any other child is let in where there is no notice.
-abbrev pub answer_to : Bool → ℕ → Option Reason → ℕ → Result ℕ GateNo
-answer_to is_session limit (Some why) word = Err (gate_no.Quit (generation_in word) why)
-answer_to false limit None word = Ok (generation_in word)
-answer_to true limit None word =
+-- so many places are kept from a child: those that are reserved from an ordinary one, and none from another
+abbrev pub reserve_by : (is_ordinary : Bool) → SessionLimit → ℕ
+reserve_by is_ordinary limit = if is_ordinary then limit.reserved else 0
+
+-- What a session is answered that meets this word, where there is no notice: it needs an open gate, and room besides the places that
+-- are kept from it.
+abbrev pub session_answer : (most reserve word : ℕ) → Result ℕ GateNo
+session_answer most reserve word =
     if not (open_in word) then Err (gate_no.NotReady (generation_in word))
-    else (if nat_lt (sessions_in word) limit then Ok (generation_in word) else Err (gate_no.TooMany (sessions_in word)))
+    else (if nat_lt (sessions_in word + reserve) most then Ok (generation_in word)
+    else (if nat_lt (sessions_in word) most then Err (gate_no.Reserved (sessions_in word)) else Err (gate_no.TooMany (sessions_in word))))
 
-abbrev pub gate_answer : Kind → ℕ → ℕ → Result ℕ GateNo
-gate_answer kind limit word = answer_to (is_session kind) limit (notice_in word) word
+-- and what any child is: one that is no session is let in where there is no notice
+abbrev pub answer_to : (is_session : Bool) → Option Reason → ℕ → (session : Result ℕ GateNo) → Result ℕ GateNo
+answer_to is_session (Some why) word session = Err (gate_no.Quit (generation_in word) why)
+answer_to false None word session = Ok (generation_in word)
+answer_to true None word session = session
 
--- What a gate answers a child of such a kind: a notice that stands, to a session that it isn't open yet, or that no fewer have a place
--- than may be attached; and else it lets the child in
-abbrev pub GateAnswers : ℕ → Kind → Gate → Result ℕ GateNo → Type 0
-GateAnswers limit kind gate (Ok g) = (g ≡ gate.generation) × (gate.noticed ≡ None) × (is_session kind ≡ true → gate.is_open ≡ true)
-GateAnswers limit kind gate (Err (gate_no.Quit g why)) = (g ≡ gate.generation) × (gate.noticed ≡ Some why)
-GateAnswers limit kind gate (Err (gate_no.NotReady g)) =
-    (g ≡ gate.generation) × (gate.noticed ≡ None) × (is_session kind ≡ true) × (gate.is_open ≡ false)
-GateAnswers limit kind gate (Err (gate_no.TooMany count)) =
-    (limit ≤ count) × (gate.noticed ≡ None) × (is_session kind ≡ true) × (gate.is_open ≡ true)
+abbrev pub gate_answer : Kind → (is_ordinary : Bool) → SessionLimit → ℕ → Result ℕ GateNo
+gate_answer kind is_ordinary limit word =
+    answer_to (is_session kind) (notice_in word) word (session_answer limit.most (reserve_by is_ordinary limit) word)
+
+-- a session meets a gate without notice that is open, or isn't
+abbrev pub MeetsSession : (is_open : Bool) → Kind → Gate → Type 0
+MeetsSession is_open kind gate = (gate.noticed ≡ None) × (is_session kind ≡ true) × (gate.is_open ≡ is_open)
+
+module _ (limit : SessionLimit) (kind : Kind) (gate : Gate) where
+  -- What a gate answers a child of such a kind: a notice that stands; to a session that it isn't open yet, or that no fewer have a
+  -- place than may be attached; to an ordinary one that no more are left than are reserved; and else it lets the child in
+  abbrev pub Answers : (is_ordinary : Bool) → Result ℕ GateNo → Type 0
+  Answers is_ordinary (Ok g) = (g ≡ gate.generation) × (gate.noticed ≡ None) × (is_session kind ≡ true → gate.is_open ≡ true)
+  Answers is_ordinary (Err (gate_no.Quit g why)) = (g ≡ gate.generation) × (gate.noticed ≡ Some why)
+  Answers is_ordinary (Err (gate_no.NotReady g)) = (g ≡ gate.generation) × MeetsSession false kind gate
+  Answers is_ordinary (Err (gate_no.TooMany count)) = (limit.most ≤ count) × MeetsSession true kind gate
+  Answers is_ordinary (Err (gate_no.Reserved count)) =
+      (is_ordinary ≡ true) × (count < limit.most) × (limit.most ≤ count + limit.reserved) × MeetsSession true kind gate
+
+  abbrev pub GateAnswers : Attempt → Type 0
+  GateAnswers attempt = Answers attempt.is_ordinary attempt.answer
 
 module _ {D : Type 0} where
   -- a child of such a kind stands at the gate: it was refused and hasn't backed out yet, or is attached
@@ -140,7 +158,7 @@ module _ {D : Type 0} where
   AllUpTo g [] = Unit {0}
   AllUpTo g (x ∷ xs) = (x.offer.generation ≤ g) × AllUpTo g xs
 
-  pub record InGeneration (limit g : ℕ) (w : PostView D) : Type 0 where
+  pub record InGeneration (limit : SessionLimit) (g : ℕ) (w : PostView D) : Type 0 where
     pub now : IsCurrent g w.work
     pub before : AllUpTo g w.past
     pub limit_is : w.notes.session_limit ≡ limit
@@ -162,11 +180,11 @@ module _ {D : Type 0} where
 
   -- The gate's word shows what the supervisor has made of it and counts the children of n slots. No more sessions stay than
   -- the limit, and none before the generation is open. All of them are of the present generation.
-  pub record GateOk (limit n word : ℕ) (gate : Gate) (cells : ℕ → Cell D) : Type 0 where
+  pub record GateOk (limit : SessionLimit) (n word : ℕ) (gate : Gate) (cells : ℕ → Cell D) : Type 0 where
     pub shows : word ≡ gate_word n gate cells
-    pub few : sum_below n (λ k. staying is_session gate.generation (cells k).post) ≤ limit
+    pub few : sum_below n (λ k. staying is_session gate.generation (cells k).post) ≤ limit.most
     pub shut : gate.is_open ≡ false → sum_below n (λ k. staying is_session gate.generation (cells k).post) ≡ 0
-    pub small : (n ≤ 407) × (limit ≤ 200)
+    pub small : (n ≤ 407) × (limit.most ≤ 200)
     pub first : 0 < gate.generation
     pub fits : gate.generation < 4294967296
     pub current : (k : ℕ) → InGeneration limit gate.generation (cells k).post

@@ -1,8 +1,8 @@
 -- The board shows the end of a run of the supervisor's events, from the first day, and what each seat did is its part of it.
 use Rattle.std.specs.{Prelude.{◌≡◌, ℕ, ◌<◌, Bool, true, false, ◌==◌, if◌then◌else◌, List, [], ◌∷◌, ◌++◌, map, Option, Some, None, length, slice_index_or}, List.flat_map}
 use Rattle.atomic_table.specs.Table.{State}
-use Rattle.pm_supervisor.specs.{pm_exit.declared.child.Kind.Kind, Children.{Child, child_of, without}, Supervisor.{Shared, first}, Shared.{SharedEvent, Join, Attach, Touch, Detach, Leave, Notice, Open, Reset, Allows, after_shared}}
-use Rattle.pm_board.specs.{Slots.child_slots, declared.views.{Offer.Offer, PastChild.PastChild, RosterStep.RosterStep, PostStep.PostStep, RosterView.RosterView, Work.{Work, TheVariants.{Idle, Sees, Inactive, Active, Refused, Attached}}, PostView.PostView, View.View}, Gate.{Gate, GateOk, first_gate, gate_of, gate_of_steps}, Latches.Latches, Seats.Seats, Rule.{Phase, unused, opened, offered, running, ended, collected, gathered, Cell, Holds}}
+use Rattle.pm_supervisor.specs.{pm_exit.declared.child.Kind.Kind, Children.{Child, child_of, without}, Supervisor.{Shared, first}, Shared.{SharedEvent, IsReserve, Join, Attach, Touch, Detach, Leave, Notice, Open, Reset, Allows, after_shared}}
+use Rattle.pm_board.specs.{Slots.child_slots, declared.views.{SessionLimit.SessionLimit, Offer.Offer, PastChild.PastChild, RosterStep.RosterStep, PostStep.PostStep, RosterView.RosterView, Work.{Work, TheVariants.{Idle, Sees, Inactive, Active, Refused, Attached}}, PostView.PostView, View.View}, Gate.{Gate, GateOk, first_gate, gate_of, gate_of_steps}, Latches.Latches, Seats.Seats, Rule.{Phase, unused, opened, offered, running, ended, collected, gathered, Cell, Holds}}
 use Rattle.pm_board.specs.declared.views.Letter as Letter
 use Rattle.pm_board.specs.declared.views.RosterStep.TheVariants as step
 use Rattle.pm_board.specs.declared.views.PostStep.TheVariants as post_step
@@ -12,10 +12,17 @@ pub record Entry : Type 0 where
   pub event : SharedEvent
   pub slot : ℕ
 
+-- where an event attaches a child, the places that it keeps from it are none, or those that are reserved
+abbrev pub KeepsPlaces : SessionLimit → SharedEvent → Type 0
+KeepsPlaces limit (Attach pid reserve) = IsReserve limit.reserved reserve
+KeepsPlaces limit _ = Unit {0}
+
 -- these events may happen one after the other, and leave this, where so many sessions may be attached
-pub data Run (limit : ℕ) : List Entry → Shared → Type 0 where
+pub data Run (limit : SessionLimit) : List Entry → Shared → Type 0 where
   begins : Run limit [] first.shared
-  goes_on : (log : List Entry) (s : Shared) (e : Entry) → Run limit log s → Allows limit s e.event → Run limit (log ++ e ∷ []) (after_shared s e.event)
+  goes_on :
+      (log : List Entry) (s : Shared) (e : Entry) → Run limit log s → Allows limit.most s e.event → KeepsPlaces limit e.event
+      → Run limit (log ++ e ∷ []) (after_shared s e.event)
 
 -- the events that the supervisor makes, in order
 abbrev pub supervisor_event : SharedEvent → List SharedEvent
@@ -23,7 +30,7 @@ supervisor_event (Join pid kind) = Join pid kind ∷ []
 supervisor_event (Notice why) = Notice why ∷ []
 supervisor_event Open = Open ∷ []
 supervisor_event Reset = Reset ∷ []
-supervisor_event (Attach pid) = []
+supervisor_event (Attach pid reserve) = []
 supervisor_event (Touch pid) = []
 supervisor_event (Detach pid) = []
 supervisor_event (Leave pid kind) = []
@@ -36,7 +43,7 @@ of_supervisor log = flat_map supervisor_in log
 
 -- and those of the worker of the slot k
 abbrev pub worker_event : SharedEvent → List SharedEvent
-worker_event (Attach pid) = Attach pid ∷ []
+worker_event (Attach pid reserve) = Attach pid reserve ∷ []
 worker_event (Touch pid) = Touch pid ∷ []
 worker_event (Detach pid) = Detach pid ∷ []
 worker_event (Leave pid kind) = Leave pid kind ∷ []
@@ -76,7 +83,7 @@ events_of steps = flat_map event_of steps
 
 -- and that of a worker
 abbrev pub worker_step : PostStep → SharedEvent
-worker_step (post_step.Attach pid) = Attach pid
+worker_step (post_step.Attach pid reserve) = Attach pid reserve
 worker_step (post_step.Detach pid) = Detach pid
 worker_step (post_step.Exit pid kind) = Leave pid kind
 
@@ -138,11 +145,11 @@ module _ {D : Type 0} where
   abbrev pub OwnParts : List Entry → (ℕ → Cell D) → ℕ → Type 0
   OwnParts log cells count = (k : ℕ) → k < count → OwnPart log k (cells k).post
 
-  abbrev pub History : ℕ → RosterView D → (ℕ → Cell D) → ℕ → Type 0
+  abbrev pub History : SessionLimit → RosterView D → (ℕ → Cell D) → ℕ → Type 0
   History limit d cells count =
       (log : List Entry) × (s : Shared) × Run limit log s × Shows s d cells count × OwnSteps log d.notes.steps (gate_of d) × OwnParts log cells count
 
-module _ {J D : Type 0} (letter : Letter.Ghosts J D) (limit : ℕ) where
+module _ {J D : Type 0} (letter : Letter.Ghosts J D) (limit : SessionLimit) where
   -- what holds between any two steps, where so many sessions may be attached
   abbrev pub Kept : State (Option J) (View D) → Type 0
   Kept s =

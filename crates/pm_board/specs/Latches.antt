@@ -4,8 +4,8 @@ use Rattle.pm_facts.specs.Numbers.{sum_below}
 use Rattle.pm_supervisor.specs.{pm_exit.declared.child.Kind.Kind, declared.Reason.Reason}
 use Rattle.pm_keys.specs.CancelKey.{cancel_key}
 use Rattle.pm_child_life.specs.declared.life.GateNo.TheVariants as gate_no
-use Rattle.pm_child_life.specs.declared.life.{GateNo.GateNo, Signals.Signals}
-use Rattle.pm_board.specs.{declared.views.{Cancel.Cancel, Heard.Heard, Offer.Offer, PastChild.PastChild, RosterStep.{RosterStep, TheVariants.{Assign, Release, Quit, Ready, Reset, Send}}, RosterView.RosterView}, Words.bit, Gate.{GateAnswers, first_gate, gate_of_steps}, Latch.{latch_place, cancel_place, signal_number, latch_pid, is_given}, Rule.{Phase, unused, opened, offered, running, ended, collected, gathered, Cell}}
+use Rattle.pm_child_life.specs.declared.life.{Attempt.Attempt, Signals.Signals}
+use Rattle.pm_board.specs.{declared.views.{SessionLimit.SessionLimit, Cancel.Cancel, Heard.Heard, Offer.Offer, PastChild.PastChild, RosterStep.{RosterStep, TheVariants.{Assign, Release, Quit, Ready, Reset, Send}}, RosterView.RosterView}, Words.bit, Gate.{GateAnswers, first_gate, gate_of_steps}, Latch.{latch_place, cancel_place, signal_number, latch_pid, is_given}, Rule.{Phase, unused, opened, offered, running, ended, collected, gathered, Cell}}
 
 -- a step is a send of the signal of this number to this pid
 abbrev pub is_send : ℕ → ℕ → RosterStep → Bool
@@ -45,12 +45,12 @@ Reaches steps latch pid given =
 abbrev pub NotReleased : ℕ → List RosterStep → Type 0
 NotReleased pid steps = (kind : Kind) (generation : ℕ) → ¬ (Contains steps (Release pid kind generation))
 
--- what the supervisor did: its own steps, and how many sessions it lets be attached
+-- what the supervisor did: its own steps, and whom it lets be attached at once
 pub record Doings : Type 0 where
   pub steps : List RosterStep
-  pub session_limit : ℕ
+  pub session_limit : SessionLimit
 
-abbrev pub doings : List RosterStep → ℕ → Doings
+abbrev pub doings : List RosterStep → SessionLimit → Doings
 doings steps limit = record { steps = steps; session_limit = limit }
 
 -- how many of these answers told of a cancel
@@ -94,11 +94,11 @@ module _ {D : Type 0} where
 
   -- The gate answered this in the child's own generation, at a moment of the supervisor's own steps, after it assigned the child and
   -- before it released one of that pid, if it did
-  abbrev pub AnsweredBefore : Doings → Offer D → Result ℕ GateNo → Type 0
-  AnsweredBefore done o answer =
+  abbrev pub AnsweredBefore : Doings → Offer D → Attempt → Type 0
+  AnsweredBefore done o attempt =
       (before after : List RosterStep) × (done.steps ≡ before ++ after) × IsAssignedBy before o
       × ((gate_of_steps first_gate before).generation ≡ o.generation)
-      × GateAnswers done.session_limit o.kind (gate_of_steps first_gate before) answer
+      × GateAnswers done.session_limit o.kind (gate_of_steps first_gate before) attempt
 
   -- What a child heard was meant for it. It was given no signal more often than it was sent to it, and heeded no more cancels than
   -- there are for its pid
@@ -106,7 +106,7 @@ module _ {D : Type 0} where
     pub sent : (number : ℕ) → times_given number h.given ≤ times_sent number o.pid done.steps
     pub cancels : cancelled o.pid (times_told h.given + bit h.heeded)
     -- and what it met at the gate, if it went there, the gate answered, as it was while the child was there
-    pub shown : (answer : Result ℕ GateNo) → h.met ≡ Some answer → AnsweredBefore done o answer
+    pub shown : (attempt : Attempt) → h.met ≡ Some attempt → AnsweredBefore done o attempt
 
   -- Of the child that runs: a signal that stands hasn't been given yet for one of the sends
   pub record HearsRightly (done : Doings) (cancelled : ℕ → ℕ → Type 0) (latch : ℕ) (o : Offer D) (h : Heard) : Type 0 where

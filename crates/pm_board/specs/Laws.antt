@@ -1,44 +1,44 @@
 -- The laws of the board, one for each function of `laws.rt`, whose contract it is.
-use Rattle.std.specs.Prelude.{◌≡◌, ℕ, ◌<◌, ◌≤◌, ◌⊎◌, true, false, Option, None, Some, Ok, List, [], ◌∷◌, ◌++◌, map, length, slice_index_or}
+use Rattle.std.specs.Prelude.{◌≡◌, ℕ, ◌<◌, ◌≤◌, ◌⊎◌, Bool, true, false, Option, None, Some, Ok, List, [], ◌∷◌, ◌++◌, map, length, slice_index_or}
 use mathlib.Core.Option.{some}
 use lib.ListN.{get_elem?}
 use Rattle.atomic_table.specs.Table.{State}
 use Rattle.pm_supervisor.specs.{Supervisor.Shared, Shared.{IsKept, Attach, Allows}, Children.{is_dead_end, is_session}}
-use Rattle.pm_board.specs.{Slots.child_slots, Gate.gate_answer, declared.views.{Offer.Offer, PastChild.PastChild, RosterView.RosterView, Work.TheVariants.{Idle, Active}, PostView.PostView, View.{View, TheVariants.{Postmaster, Worker}}}, Places.{slot_at, used_in}, Heard.{WasMade, HeardAsSent}, Latches.{HeardRightly, EachHeard, HeardBy, doings_of, Reaches, latch_at, cancel_at, times_made_on}, Told.child_in, History.{Entry, Kept, of_supervisor, events_of, of_worker, worker_step}}
+use Rattle.pm_board.specs.{Slots.child_slots, Gate.{gate_answer, reserve_by}, declared.views.{SessionLimit.SessionLimit, Offer.Offer, PastChild.PastChild, RosterView.RosterView, Work.TheVariants.{Idle, Active}, PostView.PostView, View.{View, TheVariants.{Postmaster, Worker}}}, Places.{slot_at, used_in}, Heard.{WasMade, HeardAsSent}, Latches.{HeardRightly, EachHeard, HeardBy, doings_of, Reaches, latch_at, cancel_at, times_made_on}, Told.child_in, History.{Entry, Kept, of_supervisor, events_of, of_worker, worker_step}}
 use Rattle.pm_board.specs.declared.views.Letter as Letter
 
 module _ {J D : Type 0} (letter : Letter.Ghosts J D) where
   -- the events that have led to a state of the board, and what they leave
-  abbrev pub events_before : (limit : ℕ) (s : State (Option J) (View D)) → Kept letter limit s → List Entry
+  abbrev pub events_before : (limit : SessionLimit) (s : State (Option J) (View D)) → Kept letter limit s → List Entry
   events_before limit s kept = kept.5.0
 
-  abbrev pub shown_by : (limit : ℕ) (s : State (Option J) (View D)) → Kept letter limit s → Shared
+  abbrev pub shown_by : (limit : SessionLimit) (s : State (Option J) (View D)) → Kept letter limit s → Shared
   shown_by limit s kept = kept.5.1
 
   abbrev pub ResetFindsNobody : Type 0
   ResetFindsNobody =
-      (limit : ℕ) (s : State (Option J) (View D)) → Kept letter limit s
+      (limit : SessionLimit) (s : State (Option J) (View D)) → Kept letter limit s
       → (master : ℕ) (d : RosterView D) → get_elem? s.views master ≡ some (Postmaster d) → used_in d.slots ≡ 0
       → (id k : ℕ) (w : PostView D) → get_elem? s.views id ≡ some (Worker k w) → w.work ≡ Idle
 
   abbrev pub ShowsASoundState : Type 0
-  ShowsASoundState = (limit : ℕ) (s : State (Option J) (View D)) (kept : Kept letter limit s) → IsKept limit (shown_by limit s kept)
+  ShowsASoundState = (limit : SessionLimit) (s : State (Option J) (View D)) (kept : Kept letter limit s) → IsKept limit.most (shown_by limit s kept)
 
   pub record HistoryIsOfTheSeats : Type 0 where
     pub supervisor :
-        (limit : ℕ) (s : State (Option J) (View D)) (kept : Kept letter limit s) (id : ℕ) (d : RosterView D)
+        (limit : SessionLimit) (s : State (Option J) (View D)) (kept : Kept letter limit s) (id : ℕ) (d : RosterView D)
         → get_elem? s.views id ≡ some (Postmaster d) → of_supervisor (events_before limit s kept) ≡ events_of d.notes.steps
     pub worker :
-        (limit : ℕ) (s : State (Option J) (View D)) (kept : Kept letter limit s) (id k : ℕ) (w : PostView D)
+        (limit : SessionLimit) (s : State (Option J) (View D)) (kept : Kept letter limit s) (id k : ℕ) (w : PostView D)
         → get_elem? s.views id ≡ some (Worker k w) → of_worker k (events_before limit s kept) ≡ map worker_step w.notes.steps
 
   -- whom the gate's word lets in at any moment, attaches in its own generation, and may do so in what the board shows
   abbrev pub LetsInRightly : Type 0
   LetsInRightly =
-      (limit : ℕ) (s : State (Option J) (View D)) (kept : Kept letter limit s) (id k g : ℕ) (w : PostView D) (o : Offer D)
-      → get_elem? s.views id ≡ some (Worker k w) → w.work ≡ Active o → is_dead_end o.kind ≡ false
-      → gate_answer o.kind w.notes.session_limit (slice_index_or s.words (child_slots (length s.homes)) 0) ≡ Ok g
-      → (g ≡ o.generation) × Allows limit (shown_by limit s kept) (Attach o.pid)
+      (limit : SessionLimit) (s : State (Option J) (View D)) (kept : Kept letter limit s) (id k g : ℕ) (w : PostView D) (o : Offer D)
+      → (is_ordinary : Bool) → get_elem? s.views id ≡ some (Worker k w) → w.work ≡ Active o → is_dead_end o.kind ≡ false
+      → gate_answer o.kind is_ordinary w.notes.session_limit (slice_index_or s.words (child_slots (length s.homes)) 0) ≡ Ok g
+      → (g ≡ o.generation) × Allows limit.most (shown_by limit s kept) (Attach o.pid (reserve_by is_ordinary limit))
       × ((master : ℕ) (d : RosterView D) → get_elem? s.views master ≡ some (Postmaster d)
       → (d.noticed ≡ None) × (d.generation ≡ g) × (is_session o.kind ≡ true → d.is_open ≡ true))
 
@@ -46,31 +46,31 @@ module _ {J D : Type 0} (letter : Letter.Ghosts J D) where
   pub record HearsWhatWasSent : Type 0 where
     -- of the children of a worker
     pub before :
-        (limit : ℕ) (s : State (Option J) (View D)) → Kept letter limit s → (master id k : ℕ) (d : RosterView D) (w : PostView D)
+        (limit : SessionLimit) (s : State (Option J) (View D)) → Kept letter limit s → (master id k : ℕ) (d : RosterView D) (w : PostView D)
         → get_elem? s.views master ≡ some (Postmaster d) → get_elem? s.views id ≡ some (Worker k w)
         → EachHeard (HeardBy (doings_of d) (WasMade s.views d)) w.past w.notes.heard
     -- of the one that it runs
     pub now :
-        (limit : ℕ) (s : State (Option J) (View D)) → Kept letter limit s → (master id k : ℕ) (d : RosterView D) (w : PostView D)
+        (limit : SessionLimit) (s : State (Option J) (View D)) → Kept letter limit s → (master id k : ℕ) (d : RosterView D) (w : PostView D)
         → get_elem? s.views master ≡ some (Postmaster d) → get_elem? s.views id ≡ some (Worker k w)
         → (o : Offer D) → child_in w.work ≡ Some o → HeardRightly (doings_of d) (WasMade s.views d) o w.notes.now
     -- what was sent to that one stands in its latch, until an answer told it
     pub reached :
-        (limit : ℕ) (s : State (Option J) (View D)) → Kept letter limit s → (master id k : ℕ) (d : RosterView D) (w : PostView D)
+        (limit : SessionLimit) (s : State (Option J) (View D)) → Kept letter limit s → (master id k : ℕ) (d : RosterView D) (w : PostView D)
         → get_elem? s.views master ≡ some (Postmaster d) → get_elem? s.views id ≡ some (Worker k w)
         → (o : Offer D) → child_in w.work ≡ Some o
         → Reaches d.notes.steps (latch_at (child_slots (length s.homes)) s.words k) o.pid w.notes.now.given
     -- and a cancel that any worker made for it on its slot stands, or one for a later pid, until a heed found it
     pub called :
-        (limit : ℕ) (s : State (Option J) (View D)) → Kept letter limit s → (id k id' k' : ℕ) (w w' : PostView D)
+        (limit : SessionLimit) (s : State (Option J) (View D)) → Kept letter limit s → (id k id' k' : ℕ) (w w' : PostView D)
         → get_elem? s.views id ≡ some (Worker k w) → get_elem? s.views id' ≡ some (Worker k' w') → (o : Offer D) → child_in w.work ≡ Some o
         → 0 < times_made_on k o.pid w'.notes.cancels → (o.pid ≤ cancel_at (child_slots (length s.homes)) s.words k) ⊎ (w.notes.now.found ≡ true)
     -- What was sent to a child and it wasn't told until its exit stands in the latch still, while the child isn't released
     pub left_standing :
-        (limit : ℕ) (s : State (Option J) (View D)) → Kept letter limit s → (master id k : ℕ) (d : RosterView D) (w : PostView D) (x : PastChild D)
+        (limit : SessionLimit) (s : State (Option J) (View D)) → Kept letter limit s → (master id k : ℕ) (d : RosterView D) (w : PostView D) (x : PastChild D)
         → get_elem? s.views master ≡ some (Postmaster d) → get_elem? s.views id ≡ some (Worker k w) → w.past ≡ (slot_at d k).past ++ x ∷ []
         → Reaches d.notes.steps (latch_at (child_slots (length s.homes)) s.words k) x.offer.pid w.notes.now.given
     -- and of those of the posts that were taken in
     pub gathered :
-        (limit : ℕ) (s : State (Option J) (View D)) → Kept letter limit s → (master : ℕ) (d : RosterView D)
+        (limit : SessionLimit) (s : State (Option J) (View D)) → Kept letter limit s → (master : ℕ) (d : RosterView D)
         → get_elem? s.views master ≡ some (Postmaster d) → HeardAsSent d

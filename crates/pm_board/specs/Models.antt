@@ -2,8 +2,8 @@
 use Rattle.std.specs.Prelude.{◌≡◌, ◌≢◌, ℕ, ◌+◌, ◌*◌, ◌<◌, ◌≤◌, ◌==◌, ◌++◌, Bool, false, List, [], ◌∷◌, Option, None, Some, Result, MatchOption, length, slice_get}
 use Rattle.atomic_table.specs.Seated.{TableId}
 use Rattle.pm_supervisor.specs.{pm_exit.declared.child.{Kind.Kind, Status.Status}, declared.Reason.Reason, Children.{is_dead_end, is_startup_child}}
-use Rattle.pm_child_life.specs.declared.life.{GateNo.GateNo, Signals.Signals}
-use Rattle.pm_board.specs.{Slots.child_slots, declared.{views.{Cancel.Cancel, Offer.Offer, RosterNotes.RosterNotes, RosterStep.{RosterStep, TheVariants.Send}, Sight.TheVariants.{Assigned, Exited, Gathered}, Signal.Signal, SlotView.SlotView, RosterView.RosterView, Work.{Work, TheVariants.{Idle, Sees, Inactive, Active, Refused, Attached}}, PostView.PostView, View.TheVariants.{Postmaster, Worker}}, roster.{Look.Look, Released.Released}, post.Started.Started}, Words.stage_in, Places.{slot_at, slot_view, used_in, EndsWell}, Children.children_of, Gate.{gate_answer, generation_in}, Latch.{latch_pid, signals_at}, Rule.{child_word, offer_word, idle_post}, Told.{Seated, MayEnd, roster_of, post_of, with_slot, with_post, assigned_slot, running_slot, exited_slot, released_slot, past_child, noted_assign, noted_release, noted_load, noted_start, noted_exit, noted_look, post_view, with_work, tried, detached, after_step, child_in, with_notes, noted_take, noted_heed, noted_latch_look, noted_cancel}}
+use Rattle.pm_child_life.specs.declared.life.{Attempt.Attempt, Signals.Signals}
+use Rattle.pm_board.specs.{Slots.child_slots, declared.{views.{SessionLimit.SessionLimit, Cancel.Cancel, Offer.Offer, RosterNotes.RosterNotes, RosterStep.{RosterStep, TheVariants.Send}, Sight.TheVariants.{Assigned, Exited, Gathered}, Signal.Signal, SlotView.SlotView, RosterView.RosterView, Work.{Work, TheVariants.{Idle, Sees, Inactive, Active, Refused, Attached}}, PostView.PostView, View.TheVariants.{Postmaster, Worker}}, roster.{Look.Look, Released.Released}, post.Started.Started}, Words.stage_in, Places.{slot_at, slot_view, used_in, EndsWell}, Children.children_of, Gate.{gate_answer, generation_in}, Latch.{latch_pid, signals_at}, Rule.{child_word, offer_word, idle_post}, Told.{Seated, MayEnd, roster_of, post_of, with_slot, with_post, assigned_slot, running_slot, exited_slot, released_slot, past_child, noted_assign, noted_release, noted_load, noted_start, noted_exit, noted_look, post_view, with_work, tried, detached, after_step, child_in, with_notes, noted_take, noted_heed, noted_latch_look, noted_cancel}}
 use Rattle.pm_board.specs.declared.views.Letter as Letter
 use Rattle.pm_board.specs.declared.roster.Look.TheVariants as look
 use Rattle.pm_board.specs.declared.post.Started.TheVariants as started
@@ -58,7 +58,7 @@ module _ {J D : Type 0} where
 
   -- A worker's seat is one of this board, of the slot k, and holds what its work needs. The post has at hand kind and pid of
   -- its child and the limit of sessions
-  abbrev pub IsWholePost : TableId → TableId → ℕ → Kind → ℕ → ℕ → Seated J D → Type 0
+  abbrev pub IsWholePost : TableId → TableId → ℕ → Kind → ℕ → SessionLimit → Seated J D → Type 0
   IsWholePost board table k kind pid limit me =
       (board ≡ table) × (me.0 ≡ Worker k (post_of me.0)) × (table.words ≡ 3 * child_slots table.slots + 1) × (k < child_slots table.slots)
       × HoldsMail k (post_of me.0).work me.1 × RunsKind kind (post_of me.0).work × (limit ≡ (post_of me.0).notes.session_limit)
@@ -74,7 +74,7 @@ cancel_of k seed pid key = record { slot = k; pid = pid; seed = seed; key = key 
 
 module _ {D : Type 0} where
   -- one post for each slot, in order
-  abbrev pub AreNewPosts : ℕ → ℕ → TableId → List (PostModel D) → Type 0
+  abbrev pub AreNewPosts : ℕ → SessionLimit → TableId → List (PostModel D) → Type 0
   AreNewPosts count limit table posts =
       (length posts ≡ count)
       × ((k : ℕ) (p : PostModel D) → slice_get posts k ≡ Some p → p ≡ record { table = table; slot = k; knows = idle_post limit })
@@ -159,10 +159,11 @@ module _ {D : Type 0} where
   HasUnmarked before after = (o : Offer D) → before.work ≡ Active o → after ≡ with_work before (Inactive o)
 
   -- it has tried at the gate, and got the answer to the word that it met
-  abbrev pub HasTried : Result ℕ GateNo → PostView D → PostView D → Type 0
-  HasTried answer before after =
+  abbrev pub HasTried : Attempt → PostView D → PostView D → Type 0
+  HasTried attempt before after =
       (o : Offer D) → before.work ≡ Active o
-      → (word : ℕ) × (answer ≡ gate_answer o.kind before.notes.session_limit word) × (after ≡ tried before o word) × (generation_in word ≡ o.generation)
+      → (word : ℕ) × (attempt.answer ≡ gate_answer o.kind attempt.is_ordinary before.notes.session_limit word)
+      × (after ≡ tried before o attempt.is_ordinary word) × (generation_in word ≡ o.generation)
 
   -- it has given its place at the gate back
   abbrev pub HasBackedOut : PostView D → PostView D → Type 0

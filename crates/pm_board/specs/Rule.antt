@@ -8,7 +8,7 @@ use lib.ListN.{get_elem?}
 use Rattle.atomic_table.specs.Table.{State}
 use Rattle.pm_exit.specs.declared.child.Status.{Status}
 use Rattle.pm_exit.specs.declared.child.Status.TheVariants as status
-use Rattle.pm_board.specs.{Slots.child_slots, declared.views.{Heard.Heard, Offer.Offer, PastChild.PastChild, PostNotes.PostNotes, Sight.{Sight, TheVariants.{Unused, Opened, Assigned, Exited, Collected, Gathered}}, SlotView.SlotView, RosterView.RosterView, Work.{Work, TheVariants.{Idle, Sees, Inactive, Active, Refused, Attached}}, PostView.PostView, View.{View, TheVariants.{Postmaster, Worker, Spent}}}, Words.{packed, status_number}, Places.{slot_at, SlotServes, EndsWell}}
+use Rattle.pm_board.specs.{Slots.child_slots, declared.views.{SessionLimit.SessionLimit, Heard.Heard, Offer.Offer, PastChild.PastChild, PostNotes.PostNotes, Sight.{Sight, TheVariants.{Unused, Opened, Assigned, Exited, Collected, Gathered}}, SlotView.SlotView, RosterView.RosterView, Work.{Work, TheVariants.{Idle, Sees, Inactive, Active, Refused, Attached}}, PostView.PostView, View.{View, TheVariants.{Postmaster, Worker, Spent}}}, Words.{packed, status_number}, Places.{slot_at, SlotServes, EndsWell}}
 use Rattle.pm_board.specs.declared.views.Letter as Letter
 
 -- Where a slot stands. One that is opened has the pid that its latch is armed for, a child that runs its
@@ -32,7 +32,11 @@ pub record Cell (D : Type 0) : Type 0 where
 abbrev pub no_signals : Heard
 no_signals = record { asked = 0; given = []; heeded = false; found = false; met = None }
 
-abbrev pub no_notes : ℕ → PostNotes
+-- no session may be attached
+abbrev pub no_sessions : SessionLimit
+no_sessions = record { most = 0; reserved = 0 }
+
+abbrev pub no_notes : SessionLimit → PostNotes
 no_notes limit =
     record {
       session_limit = limit;
@@ -154,7 +158,7 @@ module _ {D : Type 0} where
     pub below : (k : ℕ) → used_pid (slot_at d k).sight ≤ d.notes.last_pid
     pub differ : (j k : ℕ) → 0 < used_pid (slot_at d j).sight → used_pid (slot_at d j).sight ≡ used_pid (slot_at d k).sight → j ≡ k
 
-  abbrev pub idle_post : ℕ → PostView D
+  abbrev pub idle_post : SessionLimit → PostView D
   idle_post limit = record { past = []; work = Idle; notes = no_notes limit }
 
   -- what a seat knows is what the rule has of it

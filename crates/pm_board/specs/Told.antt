@@ -2,9 +2,9 @@
 use Rattle.std.specs.Prelude.{◌≡◌, ◌≢◌, ℕ, ◌+◌, ◌-◌, ◌*◌, ◌%◌, ◌^◌, ◌<◌, ◌==◌, min, Bool, true, false, ◌||◌, if◌then◌else◌, List, [], ◌∷◌, ◌++◌, Option, Some, None, Result, Ok, Err, slice_set, replicate}
 use Rattle.atomic_table.specs.Table.{Me, Step}
 use Rattle.pm_supervisor.specs.{pm_exit.declared.child.Status.Status, declared.Reason.{Reason, TheVariants.Stop}}
-use Rattle.pm_board.specs.{Slots.child_slots, declared.views.{Cancel.Cancel, Heard.Heard, Offer.Offer, PastChild.PastChild, PostNotes.PostNotes, RosterNotes.RosterNotes, PostStep.TheVariants.{Attach, Detach, Exit}, RosterStep.{RosterStep, TheVariants.{Assign, Release, Quit, Ready, Reset, Send}}, Sight.{Sight, TheVariants.{Unused, Opened, Assigned, Exited, Collected, Gathered}}, Signal.Signal, SlotView.SlotView, RosterView.RosterView, Work.{Work, TheVariants.{Idle, Sees, Inactive, Active, Refused, Attached}}, PostView.PostView, View.{View, TheVariants.{Postmaster, Worker, Spent}}}, Words.{stage_in, active_in, status_in, status_number, exit_step}, Places.{slot_view, slot_at, is_connection, EndsWell}, Gate.{gate_of, gate_after, gate_answer, generation_in, notice_bits}, Heard.HeardAsSent, Latch.{latch_place, latch_pid, signal_number, armed_word, signals_at}, Rule.{child_word, offer_word, no_signals, idle_post}}
+use Rattle.pm_board.specs.{Slots.child_slots, declared.views.{SessionLimit.SessionLimit, Cancel.Cancel, Heard.Heard, Offer.Offer, PastChild.PastChild, PostNotes.PostNotes, RosterNotes.RosterNotes, PostStep.TheVariants.{Attach, Detach, Exit}, RosterStep.{RosterStep, TheVariants.{Assign, Release, Quit, Ready, Reset, Send}}, Sight.{Sight, TheVariants.{Unused, Opened, Assigned, Exited, Collected, Gathered}}, Signal.Signal, SlotView.SlotView, RosterView.RosterView, Work.{Work, TheVariants.{Idle, Sees, Inactive, Active, Refused, Attached}}, PostView.PostView, View.{View, TheVariants.{Postmaster, Worker, Spent}}}, Words.{stage_in, active_in, status_in, status_number, exit_step}, Places.{slot_view, slot_at, is_connection, EndsWell}, Gate.{gate_of, gate_after, gate_answer, reserve_by, generation_in, notice_bits}, Heard.HeardAsSent, Latch.{latch_place, latch_pid, signal_number, armed_word, signals_at}, Rule.{child_word, offer_word, no_signals, no_sessions, idle_post}}
 use Rattle.pm_board.specs.declared.views.Letter as Letter
-use Rattle.pm_child_life.specs.declared.life.{GateNo.GateNo, Signals.Signals}
+use Rattle.pm_child_life.specs.{declared.life.{Attempt.Attempt, GateNo.GateNo, Signals.Signals}, Life.attempt}
 
 abbrev pub no_roster_notes : RosterNotes
 no_roster_notes = record { last_pid = 0; last_connection = 0; steps = []; met = [] }
@@ -54,7 +54,7 @@ module _ {D : Type 0} where
   released_slot x child = slot_view (x.past ++ child ∷ []) Unused
 
   -- what the supervisor knows of a new board, with so many posts made
-  abbrev pub new_roster : ℕ → ℕ → ℕ → RosterView D
+  abbrev pub new_roster : ℕ → SessionLimit → ℕ → RosterView D
   new_roster count limit dealt =
       record {
         slots = replicate count (slot_view [] Unused);
@@ -66,18 +66,18 @@ module _ {D : Type 0} where
         session_limit = limit;
       }
 
-  abbrev pub newcomer : ℕ → ℕ → View D
+  abbrev pub newcomer : ℕ → SessionLimit → View D
   newcomer count limit = Postmaster (new_roster count limit 0)
 
   abbrev pub roster_of : View D → RosterView D
   roster_of (Postmaster d) = d
-  roster_of (Worker k w) = new_roster 0 0 0
-  roster_of Spent = new_roster 0 0 0
+  roster_of (Worker k w) = new_roster 0 no_sessions 0
+  roster_of Spent = new_roster 0 no_sessions 0
 
   abbrev pub post_of : View D → PostView D
-  post_of (Postmaster d) = idle_post 0
+  post_of (Postmaster d) = idle_post no_sessions
   post_of (Worker k w) = w
-  post_of Spent = idle_post 0
+  post_of Spent = idle_post no_sessions
 
   -- one more post is made
   abbrev pub with_post : RosterView D → RosterView D
@@ -139,12 +139,12 @@ noted_latch_look notes k word = record notes { looked = notes.looked ++ record {
 abbrev pub noted_cancel : PostNotes → Cancel → PostNotes
 noted_cancel notes x = record notes { cancels = notes.cancels ++ x ∷ [] }
 
--- after an attach and a detach
-abbrev pub noted_try : PostNotes → ℕ → Result ℕ GateNo → PostNotes
-noted_try notes word answer = record notes { met = notes.met ++ word ∷ []; now = record notes.now { met = Some answer } }
+-- after a try at the gate, an attach, from which so many places were kept, and a detach
+abbrev pub noted_try : PostNotes → ℕ → Attempt → PostNotes
+noted_try notes word tried = record notes { met = notes.met ++ word ∷ []; now = record notes.now { met = Some tried } }
 
-abbrev pub noted_attach : {D : Type 0} → PostNotes → Offer D → PostNotes
-noted_attach notes o = record notes { steps = notes.steps ++ Attach o.pid ∷ [] }
+abbrev pub noted_attach : {D : Type 0} → PostNotes → Offer D → ℕ → PostNotes
+noted_attach notes o reserve = record notes { steps = notes.steps ++ Attach o.pid reserve ∷ [] }
 
 abbrev pub noted_detach : {D : Type 0} → PostNotes → Offer D → PostNotes
 noted_detach notes o = record notes { steps = notes.steps ++ Detach o.pid ∷ [] }
@@ -167,13 +167,23 @@ module _ {D : Type 0} where
   abbrev pub with_work : PostView D → Work D → PostView D
   with_work w work = post_view w.notes w.past work
 
-  -- the worker of a child that has tried at the gate, met this word and got this answer
-  abbrev pub tried_by : PostView D → Offer D → ℕ → Result ℕ GateNo → PostView D
-  tried_by w o word (Ok g) = post_view (noted_attach (noted_try w.notes word (Ok g)) o) w.past (Attached o g)
-  tried_by w o word (Err refusal) = post_view (noted_try w.notes word (Err refusal)) w.past (Refused o (generation_in word))
+  -- a child that got this answer to this word, and the notes of its worker, with so many places kept from it
+  abbrev pub work_after : Offer D → ℕ → Result ℕ GateNo → Work D
+  work_after o word (Ok g) = Attached o g
+  work_after o word (Err refusal) = Refused o (generation_in word)
 
-  abbrev pub tried : PostView D → Offer D → ℕ → PostView D
-  tried w o word = tried_by w o word (gate_answer o.kind w.notes.session_limit word)
+  abbrev pub notes_after : PostNotes → Offer D → ℕ → Result ℕ GateNo → PostNotes
+  notes_after notes o reserve (Ok g) = noted_attach notes o reserve
+  notes_after notes o reserve (Err refusal) = notes
+
+  -- the worker of a child that has tried at the gate, met this word and got the answer of this attempt
+  abbrev pub tried_by : PostView D → Offer D → ℕ → Attempt → PostView D
+  tried_by w o word tried =
+      post_view (notes_after (noted_try w.notes word tried) o (reserve_by tried.is_ordinary w.notes.session_limit) tried.answer) w.past
+      (work_after o word tried.answer)
+
+  abbrev pub tried : PostView D → Offer D → (is_ordinary : Bool) → ℕ → PostView D
+  tried w o is_ordinary word = tried_by w o word (attempt is_ordinary (gate_answer o.kind is_ordinary w.notes.session_limit word))
 
   -- and that of one that has let go
   abbrev pub detached : PostView D → Offer D → PostView D
@@ -265,11 +275,11 @@ module _ {J D : Type 0} where
   Unmarks st m found n =
       (o : Offer D) → (post_of m.0).work ≡ Active o → n ≡ (reposted m.0 (with_work (post_of m.0) (Inactive o)), m.1)
 
-  -- the worker's child is attached where the word that it met allows it, and else refused
-  abbrev pub Tries : Step (Option J) → Seated J D → ℕ → Seated J D → Type 0
-  Tries st m found n =
+  -- the worker's child, an ordinary one or not, is attached where the word that it met allows it, and else refused
+  abbrev pub Tries : (is_ordinary : Bool) → Step (Option J) → Seated J D → ℕ → Seated J D → Type 0
+  Tries is_ordinary st m found n =
       (o : Offer D) → (post_of m.0).work ≡ Active o
-      → (n ≡ (reposted m.0 (tried (post_of m.0) o found), m.1)) × (generation_in found < 4294967296) × (generation_in found ≡ o.generation)
+      → (n ≡ (reposted m.0 (tried (post_of m.0) o is_ordinary found), m.1)) × (generation_in found < 4294967296) × (generation_in found ≡ o.generation)
 
   -- it has given back its place, as one that was refused or as one that was attached
   abbrev pub BacksOut : Step (Option J) → Seated J D → ℕ → Seated J D → Type 0

@@ -1,14 +1,15 @@
 //! The steps at the gate, one call each. The crate of the gate makes its calls of them, and nobody else uses them.
 ghost use Rattle.std.specs.Prelude.{◌≡◌, ◌+◌};
-ghost use Rattle.pm_board.specs.{declared.views.RosterStep.TheVariants.{Quit, Ready, Reset}, Told.MayQuit, Models.{MayAttach, MayTry, IsActive, IsRefused, IsAttached, HasMarked, HasUnmarked, HasTried, HasBackedOut, HasDetached, MayOpen, MayReset, HasStepped}};
+ghost use Rattle.pm_board.specs.{declared.views.RosterStep.TheVariants.{Quit, Ready, Reset}, Told.MayQuit, pm_child_life.Life.attempt, Models.{MayAttach, MayTry, IsActive, IsRefused, IsAttached, HasMarked, HasUnmarked, HasTried, HasBackedOut, HasDetached, MayOpen, MayReset, HasStepped}};
 
 use crate::packing::{ACTIVE, answer_at, new_word, place, quit_adds, ready_adds};
-use crate::plays::{BacksOut, Detaches, Marks, Quits, Readies, Resets, Tries, Unmarks};
+use crate::plays::{BacksOut, Comes, Detaches, Marks, Quits, Readies, Resets, Tries, Unmarks};
 use crate::post::Post;
 use crate::roster::Roster;
 use crate::views::Letter;
 use pm_child_life::GateNo;
 use pm_supervisor::Reason;
+use std::marker::Brand;
 
 impl<J: Letter + Drop> Post<J> {
     /// Marks the slot as active.
@@ -23,20 +24,31 @@ impl<J: Letter + Drop> Post<J> {
             .fetch_add::<Marks>(&mut self.seat, self.index, ACTIVE);
     }
 
-    /// Takes a place at the gate: the child is attached, or refused, by the gate's word as this call meets it.
-    pub fn try_gate(&mut self) -> Result<u32, GateNo>
+    /// Takes a place at the gate: the child, an ordinary one or not, is attached, or refused, by the gate's word as this call meets it.
+    pub fn try_gate(&mut self, is_ordinary: bool) -> Result<u32, GateNo>
         requires { MayTry self.old.knows.work }
         ensures table { self.new.table ≡ self.old.table }
         ensures slot { self.new.slot ≡ self.old.slot }
-        ensures met { HasTried result self.old.knows self.new.knows }
+        ensures met { HasTried (attempt is_ordinary result) self.old.knows self.new.knows }
+    {
+        self.take_place::<Brand>(is_ordinary)
+    }
+
+    // The step. Of its word nobody sees whether the child is an ordinary one.
+    fn take_place<C: Comes>(&mut self, is_ordinary: bool) -> Result<u32, GateNo>
+        requires may { MayTry self.old.knows.work }
+        requires comes { C.is_ordinary ≡ is_ordinary }
+        ensures table { self.new.table ≡ self.old.table }
+        ensures slot { self.new.slot ≡ self.old.slot }
+        ensures met { HasTried (attempt is_ordinary result) self.old.knows self.new.knows }
     {
         let gate = self.words.slot_count();
         let adds = place(self.kind);
         let found = self
             .words
             .shared
-            .fetch_add::<Tries>(&mut self.seat, gate, adds);
-        answer_at(self.kind, self.session_limit, found)
+            .fetch_add::<Tries<C>>(&mut self.seat, gate, adds);
+        answer_at(self.kind, is_ordinary, self.session_limit, found)
     }
 
     /// Gives the place of a child back that was refused.

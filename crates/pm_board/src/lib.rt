@@ -27,5 +27,5 @@ pub use posts::Posts;
 pub use roster::{Board, Look, Released, Roster};
 pub use views::{
     Cancel, Heard, LatchLook, Letter, Offer, PastChild, PostNotes, PostStep, PostView, RosterNotes,
-    RosterStep, RosterView, Sight, Signal, SlotView, View, Work,
+    RosterStep, RosterView, SessionLimit, Sight, Signal, SlotView, View, Work,
 };

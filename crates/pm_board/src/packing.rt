@@ -1,9 +1,9 @@
 //! How the words of slots, gate and latches are packed. All bounds of their parts stand here.
 ghost use Rattle.std.specs.Prelude.{◌≡◌, ◌^◌, ◌/◌, ◌%◌, ◌<◌, ◌≤◌};
 ghost use Rattle.pm_supervisor.specs.Children.{is_session};
-ghost use Rattle.pm_board.specs.{Gate.{notice_bits, notice_in, open_in, generation_in, place_of, gate_answer}, Latch.{armed_word, signal_number, quit_of, signals_at, latch_pid}, Told.{MayQuit, quit_step, ready_step, new_gate}, Words.{offered_word, exit_step, stage_in, active_in, kind_in, status_in, pid_in, flag, kind_number, status_number}};
+ghost use Rattle.pm_board.specs.{Gate.{notice_bits, notice_in, open_in, generation_in, place_of, gate_answer, reserve_by}, Latch.{armed_word, signal_number, quit_of, signals_at, latch_pid}, Told.{MayQuit, quit_step, ready_step, new_gate}, Words.{offered_word, exit_step, stage_in, active_in, kind_in, status_in, pid_in, flag, kind_number, status_number}};
 
-use crate::views::Signal;
+use crate::views::{SessionLimit, Signal};
 use pm_child_life::{GateNo, Signals};
 use pm_exit::{Kind, Status};
 use pm_supervisor::Reason;
@@ -139,10 +139,23 @@ fn is_open(word: u64) -> bool
     word / OPEN % 2 != 0
 }
 
-/// Whether a child of this kind is let in that meets this word of the gate, where so many sessions may be attached.
-pub(crate) fn answer_at(kind: Kind, limit: u64, word: u64) -> Result<u32, GateNo>
+/// So many places are kept from a child: those that are reserved from an ordinary one, and none from another.
+fn reserve_for(is_ordinary: bool, limit: SessionLimit) -> u32
+    ensures { result ≡ reserve_by is_ordinary limit }
+{
+    if is_ordinary { limit.reserved } else { 0 }
+}
+
+/// Whether a child of this kind, an ordinary one or not, is let in that meets this word of the gate, where so many sessions may be
+/// attached.
+pub(crate) fn answer_at(
+    kind: Kind,
+    is_ordinary: bool,
+    limit: SessionLimit,
+    word: u64,
+) -> Result<u32, GateNo>
     requires { generation_in word < 4294967296 }
-    ensures { result ≡ gate_answer kind limit word }
+    ensures { result ≡ gate_answer kind is_ordinary limit word }
 {
     let generation = (word / GENERATION) as u32;
     if let Some(reason) = notice_at(word) {
@@ -155,8 +168,11 @@ pub(crate) fn answer_at(kind: Kind, limit: u64, word: u64) -> Result<u32, GateNo
         return Err(GateNo::NotReady { generation });
     }
     let count = (word % 4096) as u32;
-    if u64::from(count) < limit {
+    let wanted = u64::from(count) + u64::from(reserve_for(is_ordinary, limit));
+    if wanted < u64::from(limit.most) {
         Ok(generation)
+    } else if count < limit.most {
+        Err(GateNo::Reserved { count })
     } else {
         Err(GateNo::TooMany { count })
     }

@@ -1,8 +1,8 @@
 //! The rule of the table, and what each step tells the seat that makes it.
-ghost use Rattle.std.specs.Prelude.{[]};
+ghost use Rattle.std.specs.Prelude.{[], Bool, true};
 ghost use Rattle.pm_board.specs.declared.views.Cancel.{Cancel};
 
-use crate::views::{Letter, View};
+use crate::views::{Letter, SessionLimit, View};
 use atomic_table::{Join, Play, Split, Table, TableRule};
 use std::alloc::Global;
 use std::marker::{Brand, PhantomData};
@@ -11,7 +11,7 @@ use std::marker::{Brand, PhantomData};
 #[derive(Drop)]
 pub(crate) struct Limits {
     pub(crate) slots: u64,
-    pub(crate) sessions: u64,
+    pub(crate) sessions: SessionLimit,
 }
 
 pub(crate) struct Slots<J> {
@@ -104,12 +104,23 @@ impl<J, D> Play<Option<J>, View<D>> for Unmarks {
     ghost then = { told.Unmarks };
 }
 
-pub(crate) struct Tries;
+/// Whether it is an ordinary child that tries at the gate. The words don't tell it.
+pub(crate) trait Comes {
+    ghost is_ordinary: { Bool };
+}
 
-impl<J, D> Play<Option<J>, View<D>> for Tries {
+impl Comes for Brand {
+    ghost is_ordinary = { true };
+}
+
+pub(crate) struct Tries<C> {
+    comes: PhantomData<C>,
+}
+
+impl<J, D, C: Comes> Play<Option<J>, View<D>> for Tries<C> {
     ghost use Rattle.pm_board.specs.Told as told;
 
-    ghost then = { told.Tries };
+    ghost then = { told.Tries C.is_ordinary };
 }
 
 pub(crate) struct BacksOut;

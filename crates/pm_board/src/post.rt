@@ -4,7 +4,7 @@ ghost use Rattle.pm_board.specs.{declared.views.Work.TheVariants.Idle, Words.sta
 
 use crate::packing::{NEXT_STAGE, OFFERED, ended, kind, low_half, pid, stage};
 use crate::plays::{Ends, Loads, Starts, Words};
-use crate::views::{Letter, View};
+use crate::views::{Letter, SessionLimit, View};
 use atomic_table::Seat;
 use pm_exit::{Kind, Status};
 use std::marker::Model;
@@ -28,7 +28,7 @@ pub struct Post<J: Letter + Drop> {
     /// Of the child that runs.
     pub(crate) kind: Kind,
     pub(crate) pid: u32,
-    pub(crate) session_limit: u64,
+    pub(crate) session_limit: SessionLimit,
 }
 
 impl<J: Letter + Drop> Model for Post<J> {

@@ -10,7 +10,7 @@ use crate::plays::{
 };
 use crate::post::Post;
 use crate::posts::Posts;
-use crate::views::{Letter, View};
+use crate::views::{Letter, SessionLimit, View};
 use atomic_table::Seat;
 use pm_exit::{Kind, Status};
 use pm_supervisor::Reason;
@@ -187,7 +187,7 @@ impl<J: Letter + Drop> Roster<J> {
     }
 
     // One more post. The roster is as before where there is no memory.
-    fn deal(&mut self, index: usize, session_limit: u64) -> Result<Post<J>, AllocError>
+    fn deal(&mut self, index: usize, session_limit: SessionLimit) -> Result<Post<J>, AllocError>
         requires index { (index ≡ self.old.knows.dealt) × (index < length self.old.knows.slots) }
         requires limit { session_limit ≡ self.old.knows.session_limit }
         ensures table { self.new.table ≡ self.old.table }
@@ -214,9 +214,9 @@ impl Board {
     pub fn new<J: Letter + Drop>(
         alloc: Global,
         slots: u32,
-        session_limit: u32,
+        session_limit: SessionLimit,
     ) -> Result<(Roster<J>, Posts<J>), AllocError>
-        requires { (0 < slots) × (slots ≤ 407) × (session_limit ≤ 200) }
+        requires { (0 < slots) × (slots ≤ 407) × (session_limit.most ≤ 200) }
         ensures roster { IfOk result (λ r. r.0.knows ≡ new_roster slots session_limit slots) }
         ensures posts { IfOk result (λ r. AreNewPosts slots session_limit r.0.table
             r.1.left.items) }
@@ -224,7 +224,7 @@ impl Board {
         let count = slots as usize;
         let limits = Limits {
             slots: u64::from(slots),
-            sessions: u64::from(session_limit),
+            sessions: session_limit,
         };
         let mut numbers = vec![in alloc; UNUSED; 3 * count + 1]?;
         numbers[count] = FIRST_GATE;

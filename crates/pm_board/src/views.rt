@@ -2,9 +2,16 @@
 ghost use Rattle.std.specs.Prelude.{Bool};
 ghost use Rattle.pm_exit.specs.declared.child.{Kind.Kind, Status.Status};
 
-use pm_child_life::{GateNo, Reason, Signals};
+use pm_child_life::{Attempt, Reason, Signals};
 use pm_exit::{Kind, Status};
 use std::collections::LinkedList;
+
+/// How many sessions may be attached at once, and how many of these places are reserved: kept from ordinary ones.
+#[derive(Clone, Copy, Debug, PartialEq, Eq)]
+pub struct SessionLimit {
+    pub most: u32,
+    pub reserved: u32,
+}
 
 /// A mail, by its content as plain data, and the children that it is for.
 pub trait Letter {
@@ -63,7 +70,7 @@ pub struct Heard {
     /// A heed has found a cancel for it.
     pub found: bool,
     /// What its last step at the gate met.
-    pub met: Option<Result<u32, GateNo>>,
+    pub met: Option<Attempt>,
 }
 
 /// A cancel that a child sent to another.
@@ -115,7 +122,8 @@ pub enum RosterStep {
 
 /// A step of a worker that changes what the board shows.
 pub enum PostStep {
-    Attach { pid: u32 },
+    /// So many places at the gate were kept from it.
+    Attach { pid: u32, reserve: u32 },
     Detach { pid: u32 },
     Exit { pid: u32, kind: Kind },
 }
@@ -163,7 +171,7 @@ pub struct RosterView<D> {
     pub generation: u32,
     pub is_open: bool,
     pub noticed: Option<Reason>,
-    pub session_limit: u64,
+    pub session_limit: SessionLimit,
 }
 
 /// What a worker does.
@@ -182,7 +190,7 @@ pub enum Work<D> {
 
 /// What a worker notes of its own steps.
 pub struct PostNotes {
-    pub session_limit: u64,
+    pub session_limit: SessionLimit,
     /// The words that its loads, its tries at the gate, and its takes and heeds met.
     pub met: LinkedList<u64>,
     /// Its looks at latches.

@@ -24,7 +24,7 @@ gate_event _ gate = gate
 one_event : (h : Trace) (e : SupervisorEvent) → gate_shown (happened h e).now.shared ≡ gate_event e (gate_shown h.now.shared)
 one_event h (supervisor.Accept pid decision) = refl
 one_event h (supervisor.Start pid kind) = refl
-one_event h (supervisor.Attach pid) = refl
+one_event h (supervisor.Attach pid reserve) = refl
 one_event h (supervisor.Touch pid) = refl
 one_event h (supervisor.Detach pid) = refl
 one_event h (supervisor.Exit pid kind status was_active) = refl
@@ -325,7 +325,7 @@ of_call m (Exits pid kind status was_active now) gate = exits_gate m kind _ was_
 of_call m (Asks mode now) gate = requested_gate (strengthen_of m.shutdown mode) m now gate
 of_call m (Ticks now) gate = ticked_gate m.abort_at m now gate
 of_call m TakesTurn gate = turn_gate m gate
-of_call m (Attaches pid) gate = refl
+of_call m (Attaches pid reserve) gate = refl
 of_call m (Touches pid) gate = refl
 of_call m (Detaches pid) gate = refl
 

@@ -627,7 +627,7 @@ call_yet limits m h (Exits pid k status was_active now) kind facts there none is
 call_yet limits m h (Asks how now) kind facts there none is = requested_yet (is_startup_child kind) (strengthen_of m.shutdown how) m now (strengthens m.shutdown how) is
 call_yet limits m h (Ticks now) kind facts there none is = ticked_yet (is_startup_child kind) m.abort_at m now is
 call_yet limits m h TakesTurn kind facts there none is = turn_yet (is_startup_child kind) m (at_first_yet limits m h.now facts) none is
-call_yet limits m h (Attaches pid) kind facts there none is = is
+call_yet limits m h (Attaches pid reserve) kind facts there none is = is
 call_yet limits m h (Touches pid) kind facts there none is = is
 call_yet limits m h (Detaches pid) kind facts there none is = is
 
@@ -652,6 +652,6 @@ call_starts limits m h (Exits pid k status was_active now) facts there =
 call_starts limits m h (Asks how now) facts there = requested_starts _ (strengthen_of m.shutdown how) m now
 call_starts limits m h (Ticks now) facts there = ticked_starts _ m.abort_at m now
 call_starts limits m h TakesTurn facts there = turn_starts limits m h.now facts
-call_starts limits m h (Attaches pid) facts there = tt
+call_starts limits m h (Attaches pid reserve) facts there = tt
 call_starts limits m h (Touches pid) facts there = tt
 call_starts limits m h (Detaches pid) facts there = tt

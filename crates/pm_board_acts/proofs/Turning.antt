@@ -239,6 +239,6 @@ calls_may limits p (Exits pid kind status was_active now) step fit = exits_may l
 calls_may limits p (Asks mode now) step fit = requested_may (strengthen_of p.machine.shutdown mode) p.machine now _ _
 calls_may limits p (Ticks now) step fit = ticked_may p.machine.abort_at p.machine now _ _
 calls_may limits p TakesTurn step fit = turn_may limits p.machine p.trace.now step.holds.facts
-calls_may limits p (Attaches pid) step fit = tt
+calls_may limits p (Attaches pid reserve) step fit = tt
 calls_may limits p (Touches pid) step fit = tt
 calls_may limits p (Detaches pid) step fit = tt

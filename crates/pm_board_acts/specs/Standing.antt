@@ -1,6 +1,6 @@
 -- What holds of a supervisor at work with its board, at every moment.
 use Rattle.std.specs.{Prelude.{◌≡◌, ℕ, ◌<◌, ◌≤◌, ◌==◌, if◌then◌else◌, List, [], ◌∷◌, ◌++◌, map, Option, Some, None, IfSome, length}, List.AllByRecursion}
-use Rattle.pm_board.specs.{pm_exit.declared.child.Kind.Kind, pm_supervisor.{declared.Limits.Limits, Steps.Trace}, declared.views.{RosterStep.RosterStep, RosterView.RosterView}, Places.{slot_at, SlotServes}, Told.new_roster, Gate.gate_of}
+use Rattle.pm_board.specs.{pm_exit.declared.child.Kind.Kind, pm_supervisor.{declared.Limits.Limits, Steps.Trace}, declared.views.{SessionLimit.SessionLimit, RosterStep.RosterStep, RosterView.RosterView}, Places.{slot_at, SlotServes}, Told.new_roster, Gate.gate_of}
 use Rattle.pm_board.specs.pm_exit.declared.child.Kind.TheVariants as kind
 use Rattle.pm_board.specs.declared.views.RosterStep.TheVariants as step
 use Rattle.pm_board.specs.declared.views.Signal.TheVariants as signal
@@ -103,7 +103,7 @@ module _ {D : Type 0} where
   pub record IsUnbegun (limits : Limits) (count : ℕ) (v : View D) : Type 0 where
     pub standing : v.work.standing ≡ nothing_done limits
     pub told : IfSome v.work.told (λ entries. entries ≡ [])
-    pub session_limit : ℕ
+    pub session_limit : SessionLimit
     pub posts : ℕ
     pub board : v.board ≡ new_roster count session_limit posts
     pub many : 7 < count

@@ -1,7 +1,7 @@
 -- A child that runs on a post, as its life knows it.
-use Rattle.std.{proofs.{Common.{ℕ, ◌≡◌, inl, inr, ◌∙◌, ◌++◌, Bool, true, false, List, [], ◌∷◌, Option, Some, None, length, ap, sym, refl, subst}, lemmas.{List.{append-nil, append_assoc}, Grind.fold-append}}, specs.{Prelude.{IsTrue, Result, Ok, Err, not, nat_lt, if◌then◌else◌}, Option.option_to_list}}
+use Rattle.std.{proofs.{Common.{arith, ℕ, ◌≡◌, ◌+◌, inl, inr, ◌∙◌, ◌++◌, Bool, true, false, List, [], ◌∷◌, Option, Some, None, length, ap, sym, refl, subst}, lemmas.{List.{append-nil, append_assoc}, Grind.fold-append}}, specs.{Prelude.{IsTrue, Result, Ok, Err, not, nat_lt, if◌then◌else◌}, Option.option_to_list}}
 use Rattle.pm_gate.specs.{pm_supervisor.{Children.{is_dead_end, is_session}, declared.Reason.Reason}, declared.tokens.Attached.Attached as Token, Attaching.{IsAttachedIn, HasAttached, HasLeft, answer_of, after_attach}}
-use Rattle.pm_board.specs.{pm_child_life.{declared.life.{Cancelled.{Cancelled, TheVariants.{Sent, NoSuchPid, WrongKey}}, GateNo.{GateNo, TheVariants.{NotReady, TooMany}}, Signals.Signals}, Life.{Told, nothing_told, asked_again, let_go}}, Slots.child_slots, declared.views.{Cancel.Cancel, Heard.Heard, LatchLook.LatchLook, Offer.Offer, PostView.PostView, Work.{Work, TheVariants.{Idle, Sees, Inactive, Active, Refused, Attached}}}, Gate.{answer_to, gate_answer, generation_in, notice_in, open_in, sessions_in}, Told.{child_in, answered}, Models.{PostModel, MayAttach, RunsChild, cancel_of}, Rule.no_signals}
+use Rattle.pm_board.specs.{pm_child_life.{declared.life.{Cancelled.{Cancelled, TheVariants.{Sent, NoSuchPid, WrongKey}}, Attempt.Attempt, GateNo.{GateNo, TheVariants.{NotReady, TooMany, Reserved}}, Signals.Signals}, Life.{Told, attempt, nothing_told, asked_again, let_go}}, Slots.child_slots, declared.views.{SessionLimit.SessionLimit, Cancel.Cancel, Heard.Heard, LatchLook.LatchLook, Offer.Offer, PostView.PostView, Work.{Work, TheVariants.{Idle, Sees, Inactive, Active, Refused, Attached}}}, Gate.{answer_to, gate_answer, session_answer, reserve_by, generation_in, notice_in, open_in, sessions_in}, Told.{child_in, answered}, Models.{PostModel, MayAttach, RunsChild, cancel_of}, Rule.no_signals}
 use Rattle.pm_latch.specs.{Taking.HasTaken, Cancelling.{HasAsked, looks_from, request}}
 use Rattle.pm_board_life.specs.Lives.{Beginning, LifeModel, beginning, child_by, told_in_turn, told_by, IsAnswerTo, MetRightly, Makes, LivesAs, IsLiving, GoesOn, GoesOnFrom}
 
@@ -11,16 +11,29 @@ not_true : (b : Bool) → (IsTrue b → ⊥) → b ≡ false
 not_true false h = refl
 not_true true h = absurd (h refl)
 
-session_answer : (shut room : Bool) (g count : ℕ) → IsAnswerTo g true (if shut then Err (NotReady g) else (if room then Ok g else Err (TooMany count)))
-session_answer true room g count = (refl, refl)
-session_answer false true g count = refl
-session_answer false false g count = refl
+answers : (shut room left is_ordinary : Bool) (g count : ℕ) → (room ≡ false → left ≡ true → is_ordinary ≡ true)
+    → IsAnswerTo g true is_ordinary (if shut then Err (NotReady g) else (if room then Ok g else (if left then Err (Reserved count) else Err (TooMany count))))
+answers true room left is_ordinary g count kept = (refl, refl)
+answers false true left is_ordinary g count kept = refl
+answers false false true is_ordinary g count kept = (refl, kept refl refl)
+answers false false false is_ordinary g count kept = refl
+
+-- places are kept from ordinary children alone
+kept_from : (is_ordinary : Bool) (limit : SessionLimit) (count : ℕ) → nat_lt (count + reserve_by is_ordinary limit) limit.most ≡ false → nat_lt count limit.most ≡ true
+    → is_ordinary ≡ true
+kept_from true limit count full left = refl
+kept_from false limit count full left =
+    let same : count + 0 ≡ count = omega arith in
+    absurd (let no : true ≡ false = sym left ∙ (sym (ap (λ (n : ℕ). nat_lt n limit.most) same) ∙ full) in cc)
 
 -- what the gate answers is right for a child of the word's generation
-pub answers_rightly : (session : Bool) (limit : ℕ) (notice : Option Reason) (word : ℕ) → IsAnswerTo (generation_in word) session (answer_to session limit notice word)
-answers_rightly session limit (Some why) word = refl
-answers_rightly false limit None word = refl
-answers_rightly true limit None word = session_answer (not (open_in word)) (nat_lt (sessions_in word) limit) (generation_in word) (sessions_in word)
+pub answers_rightly : (session is_ordinary : Bool) (limit : SessionLimit) (notice : Option Reason) (word : ℕ)
+    → IsAnswerTo (generation_in word) session is_ordinary (answer_to session notice word (session_answer limit.most (reserve_by is_ordinary limit) word))
+answers_rightly session is_ordinary limit (Some why) word = refl
+answers_rightly false is_ordinary limit None word = refl
+answers_rightly true is_ordinary limit None word =
+    answers (not (open_in word)) (nat_lt (sessions_in word + reserve_by is_ordinary limit) limit.most) (nat_lt (sessions_in word) limit.most) is_ordinary
+    (generation_in word) (sessions_in word) (kept_from is_ordinary limit (sessions_in word))
 
 abbrev stands : Option ℕ → Type 0
 stands None = ⊥
@@ -176,13 +189,13 @@ module _ {D : Type 0} where
         cancels = ap (λ v. v.notes.cancels) is ∙ sym (append-nil before.knows.notes.cancels);
       }
 
-  -- it was at the gate and got this answer
-  gated : (seed : List ℕ) (cancel : Option (ℕ × ℕ)) (before after : PostModel D) (o : Offer D) (answer : Result ℕ GateNo) → before.knows.work ≡ Inactive o
+  -- it was at the gate and met this
+  gated : (seed : List ℕ) (cancel : Option (ℕ × ℕ)) (before after : PostModel D) (o : Offer D) (try : Attempt) → before.knows.work ≡ Inactive o
       → after.table ≡ before.table → after.slot ≡ before.slot → child_in after.knows.work ≡ Some o → after.knows.past ≡ before.knows.past
-      → after.knows.notes.heard ≡ before.knows.notes.heard → after.knows.notes.now.met ≡ Some answer → after.knows.notes.looked ≡ before.knows.notes.looked
+      → after.knows.notes.heard ≡ before.knows.notes.heard → after.knows.notes.now.met ≡ Some try → after.knows.notes.looked ≡ before.knows.notes.looked
       → after.knows.notes.cancels ≡ before.knows.notes.cancels
-      → IsAnswerTo o.generation (is_session o.kind) answer → Follows (record { post = before; seed = seed; cancel = cancel }) (record { post = after; seed = seed; cancel = cancel })
-  gated seed cancel before after o answer does t sl child past heard met looks cancels right =
+      → MetRightly o (Some try) → Follows (record { post = before; seed = seed; cancel = cancel }) (record { post = after; seed = seed; cancel = cancel })
+  gated seed cancel before after o try does t sl child past heard met looks cancels right =
       record {
         table = t;
         slot = sl;
@@ -192,7 +205,7 @@ module _ {D : Type 0} where
         heard = heard;
         met = λ p e m.
             let same : o ≡ p = ap (child_or o) (sym (ap child_in does) ∙ e) in
-            subst (MetRightly p) (sym met) (subst (λ (q : Offer D). IsAnswerTo q.generation (is_session q.kind) answer) same right);
+            subst (MetRightly p) (sym met) (subst (λ (q : Offer D). MetRightly q (Some try)) same right);
         looked = [];
         made = [];
         makes = λ its many _ _. same_makes cancel its many;
@@ -200,26 +213,26 @@ module _ {D : Type 0} where
         cancels = cancels ∙ sym (append-nil before.knows.notes.cancels);
       }
 
-  gated_by : (seed : List ℕ) (cancel : Option (ℕ × ℕ)) (before after : PostModel D) (o : Offer D) (answer : Result ℕ GateNo) (word : ℕ) → before.knows.work ≡ Inactive o
-      → after.table ≡ before.table → after.slot ≡ before.slot → after.knows ≡ after_attach before.knows o word answer
-      → IsAnswerTo o.generation (is_session o.kind) answer → Follows (record { post = before; seed = seed; cancel = cancel }) (record { post = after; seed = seed; cancel = cancel })
-  gated_by seed cancel before after o (Ok g) word does t sl is right =
-      gated seed cancel before after o (Ok g) does t sl (ap (λ v. child_in v.work) is) (ap (λ v. v.past) is) (ap (λ v. v.notes.heard) is) (ap (λ v. v.notes.now.met) is) (ap (λ v. v.notes.looked) is)
-      (ap (λ v. v.notes.cancels) is) right
-  gated_by seed cancel before after o (Err refusal) word does t sl is right =
-      gated seed cancel before after o (Err refusal) does t sl (ap (λ v. child_in v.work) is) (ap (λ v. v.past) is) (ap (λ v. v.notes.heard) is) (ap (λ v. v.notes.now.met) is) (ap (λ v. v.notes.looked) is)
-      (ap (λ v. v.notes.cancels) is) right
+  gated_by : (seed : List ℕ) (cancel : Option (ℕ × ℕ)) (before after : PostModel D) (o : Offer D) (is_ordinary : Bool) (answer : Result ℕ GateNo) (word : ℕ)
+      → before.knows.work ≡ Inactive o → after.table ≡ before.table → after.slot ≡ before.slot → after.knows ≡ after_attach before.knows o word (attempt is_ordinary answer)
+      → MetRightly o (Some (attempt is_ordinary answer)) → Follows (record { post = before; seed = seed; cancel = cancel }) (record { post = after; seed = seed; cancel = cancel })
+  gated_by seed cancel before after o is_ordinary (Ok g) word does t sl is right =
+      gated seed cancel before after o (attempt is_ordinary (Ok g)) does t sl (ap (λ v. child_in v.work) is) (ap (λ v. v.past) is) (ap (λ v. v.notes.heard) is) (ap (λ v. v.notes.now.met) is)
+      (ap (λ v. v.notes.looked) is) (ap (λ v. v.notes.cancels) is) right
+  gated_by seed cancel before after o is_ordinary (Err refusal) word does t sl is right =
+      gated seed cancel before after o (attempt is_ordinary (Err refusal)) does t sl (ap (λ v. child_in v.work) is) (ap (λ v. v.past) is) (ap (λ v. v.notes.heard) is) (ap (λ v. v.notes.now.met) is)
+      (ap (λ v. v.notes.looked) is) (ap (λ v. v.notes.cancels) is) right
 
-  pub attaches : (seed : List ℕ) (cancel : Option (ℕ × ℕ)) (before after : PostModel D) (answer : Result Token GateNo) → MayAttach before.knows.work
-      → after.table ≡ before.table → after.slot ≡ before.slot → HasAttached answer before.knows after.knows
+  pub attaches : (seed : List ℕ) (cancel : Option (ℕ × ℕ)) (before after : PostModel D) (is_ordinary : Bool) (answer : Result Token GateNo) → MayAttach before.knows.work
+      → after.table ≡ before.table → after.slot ≡ before.slot → HasAttached (attempt is_ordinary (answer_of answer)) before.knows after.knows
       → Follows (record { post = before; seed = seed; cancel = cancel }) (record { post = after; seed = seed; cancel = cancel })
-  attaches seed cancel before after answer may t sl met =
+  attaches seed cancel before after is_ordinary answer may t sl met =
       let o = may.0 in
       let m = met o may.1 in
-      gated_by seed cancel before after o (answer_of answer) m.0 may.1 t sl m.2
-      (subst (IsAnswerTo o.generation (is_session o.kind)) (sym m.1)
-      (subst (λ (g : ℕ). IsAnswerTo g (is_session o.kind) (gate_answer o.kind before.knows.notes.session_limit m.0)) m.3
-      (answers_rightly (is_session o.kind) before.knows.notes.session_limit (notice_in m.0) m.0)))
+      gated_by seed cancel before after o is_ordinary (answer_of answer) m.0 may.1 t sl m.2
+      (subst (IsAnswerTo o.generation (is_session o.kind) is_ordinary) (sym m.1)
+      (subst (λ (g : ℕ). IsAnswerTo g (is_session o.kind) is_ordinary (gate_answer o.kind is_ordinary before.knows.notes.session_limit m.0)) m.3
+      (answers_rightly (is_session o.kind) is_ordinary before.knows.notes.session_limit (notice_in m.0) m.0)))
 
   pid_of : (pid : ℕ) (attached : Option Token) (o : Offer D) → LivesAs pid attached (Inactive o) → pid ≡ o.pid
   pid_of pid None o h = h

@@ -1,7 +1,7 @@
 -- What the life of a child tells that runs on a post.
 use Rattle.std.specs.{Prelude.{◌≡◌, ◌⊎◌, ℕ, ◌<◌, Bool, true, false, List, [], ◌∷◌, ◌++◌, Option, Some, None, Result, Ok, Err, IfSome, length}, List.fold, Option.option_to_list}
 use Rattle.pm_gate.specs.{pm_supervisor.Children.{is_dead_end, is_session}, declared.tokens.Attached.Attached as Token}
-use Rattle.pm_board.specs.{pm_child_life.{declared.life.{GateNo.{GateNo, TheVariants.{Quit, NotReady, TooMany}}, Signals.Signals}, Life.{Child, Told, nothing_told, asked_again}}, Slots.child_slots, declared.views.{Cancel.Cancel, Heard.Heard, LatchLook.LatchLook, Offer.Offer, Work.{Work, TheVariants.{Idle, Sees, Inactive, Active, Refused, Attached}}}, Latch.latch_pid, Told.child_in, Models.{PostModel, cancel_of}}
+use Rattle.pm_board.specs.{pm_child_life.{declared.life.{Attempt.Attempt, GateNo.{GateNo, TheVariants.{Quit, NotReady, TooMany, Reserved}}, Signals.Signals}, Life.{Child, Told, nothing_told, asked_again}}, Slots.child_slots, declared.views.{Cancel.Cancel, Heard.Heard, LatchLook.LatchLook, Offer.Offer, Work.{Work, TheVariants.{Idle, Sees, Inactive, Active, Refused, Attached}}}, Latch.latch_pid, Told.child_in, Models.{PostModel, cancel_of}}
 use Rattle.pm_latch.specs.Cancelling.{Request, request, HasKey, looks_from, NoneFor}
 
 -- ---- what it was told
@@ -16,19 +16,20 @@ told_by heard cancel = record (told_in_turn heard.given) { met = heard.met; canc
 
 -- ---- what it met at the gate
 
-abbrev pub IsRefusalOf : (generation : ℕ) → (session : Bool) → GateNo → Type 0
-IsRefusalOf generation session (Quit noticed reason) = noticed ≡ generation
-IsRefusalOf generation session (NotReady shut) = (shut ≡ generation) × (session ≡ true)
-IsRefusalOf generation session (TooMany count) = session ≡ true
+abbrev pub IsRefusalOf : (generation : ℕ) → (session is_ordinary : Bool) → GateNo → Type 0
+IsRefusalOf generation session is_ordinary (Quit noticed reason) = noticed ≡ generation
+IsRefusalOf generation session is_ordinary (NotReady shut) = (shut ≡ generation) × (session ≡ true)
+IsRefusalOf generation session is_ordinary (TooMany count) = session ≡ true
+IsRefusalOf generation session is_ordinary (Reserved count) = (session ≡ true) × (is_ordinary ≡ true)
 
 -- A child is let into its own generation. It is refused for a notice in that generation; only a session is refused for another
--- cause.
-abbrev pub IsAnswerTo : (generation : ℕ) → (session : Bool) → Result ℕ GateNo → Type 0
-IsAnswerTo generation session (Ok let_in) = let_in ≡ generation
-IsAnswerTo generation session (Err refusal) = IsRefusalOf generation session refusal
+-- cause, and only one that came as an ordinary one since the places that are left are reserved.
+abbrev pub IsAnswerTo : (generation : ℕ) → (session is_ordinary : Bool) → Result ℕ GateNo → Type 0
+IsAnswerTo generation session is_ordinary (Ok let_in) = let_in ≡ generation
+IsAnswerTo generation session is_ordinary (Err refusal) = IsRefusalOf generation session is_ordinary refusal
 
-abbrev pub MetRightly : {D : Type 0} → Offer D → Option (Result ℕ GateNo) → Type 0
-MetRightly o met = IfSome met (IsAnswerTo o.generation (is_session o.kind))
+abbrev pub MetRightly : {D : Type 0} → Offer D → Option Attempt → Type 0
+MetRightly o met = IfSome met (λ attempt. IsAnswerTo o.generation (is_session o.kind) attempt.is_ordinary attempt.answer)
 
 -- ---- the cancel that it asked for
 

@@ -4,7 +4,7 @@ ghost use Rattle.pm_board.specs.{declared.views.{Work.TheVariants.Inactive, Offe
 ghost use Rattle.pm_board_life.specs.Lives.{Beginning, LifeModel, LivesAs, GoesOnFrom, IsLiving, beginning};
 
 use pm_board::{Letter, Post};
-use pm_child_life::{Cancelled, GateNo, Life, Signals};
+use pm_child_life::{Cancelled, GateNo, Life, Seat, Signals};
 use pm_gate::Attached;
 use std::marker::{Brand, Model, PhantomData};
 
@@ -73,14 +73,19 @@ impl<J: Letter + Drop, K: Begun<J::Told>> PostLife<J, K> {
     }
 }
 
-impl<J: Letter + Drop, K: Begun<J::Told>> Life for PostLife<J, K> {
+impl<J: Letter + Drop, K: Begun<J::Told>> Seat for PostLife<J, K> {
     ghost use Rattle.std.specs.Prelude.{Some};
+    ghost use Rattle.pm_board.specs.pm_child_life.Life.{HasNoStore};
     ghost use Rattle.pm_board_life.specs.Lives.{child_by, told_by};
 
     ghost child = { λ l. child_by l.post.knows.work };
 
     ghost told = { λ l. Some (told_by l.post.knows.notes.now l.cancel) };
 
+    ghost rests = { HasNoStore };
+}
+
+impl<J: Letter + Drop, K: Begun<J::Told>> Life for PostLife<J, K> {
     fn pid(&self) -> u32 {
         self.pid
     }
@@ -89,8 +94,8 @@ impl<J: Letter + Drop, K: Begun<J::Told>> Life for PostLife<J, K> {
         pm_latch::take(&mut self.post)
     }
 
-    fn attach(&mut self) -> Result<u32, GateNo> {
-        let token = pm_gate::attach(&mut self.post)?;
+    fn attach(&mut self, is_ordinary: bool) -> Result<u32, GateNo> {
+        let token = pm_gate::attach(&mut self.post, is_ordinary)?;
         let generation = token.generation;
         self.attached = Some(token);
         Ok(generation)
@@ -107,4 +112,8 @@ impl<J: Letter + Drop, K: Begun<J::Told>> Life for PostLife<J, K> {
         self.cancel = Some((pid, key));
         pm_latch::cancel(&mut self.post, &self.seed, pid, key)
     }
+
+    ghost stands_still = { λ life. tt };
+
+    ghost rests_on = { λ before between now one two. tt };
 }

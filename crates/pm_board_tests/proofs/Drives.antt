@@ -3,7 +3,7 @@ use Rattle.std.proofs.{Common.{◌≡◌, ℕ, ◌<◌, ◌≤◌, [], length, s
 use mathlib.Core.Logic.{dite}
 use native.Mathlib.Decide.{ℕ_discrete}
 use Rattle.std.specs.Prelude.{true, false}
-use Rattle.pm_board.specs.{pm_facts.Lists.same_everywhere, pm_exit.declared.child.Kind.Kind, declared.views.{RosterNotes.RosterNotes, RosterView.RosterView, Sight.{Sight, TheVariants.Unused}, SlotView.SlotView}, Places.{slot_at, slot_view, is_auxiliary, IsReaped, MayAssign}, Told.new_roster, Models.SlotBecame}
+use Rattle.pm_board.specs.{pm_facts.Lists.same_everywhere, pm_exit.declared.child.Kind.Kind, declared.views.{SessionLimit.SessionLimit, RosterNotes.RosterNotes, RosterView.RosterView, Sight.{Sight, TheVariants.Unused}, SlotView.SlotView}, Places.{slot_at, slot_view, is_auxiliary, IsReaped, MayAssign}, Told.new_roster, Models.SlotBecame}
 use Rattle.pm_board_tests.specs.Drive.{Sees, IsFree, ServesFrom}
 
 pub may_assign : (d : RosterView ℕ) (last pid : ℕ) (kind : Kind) → IsFree d last → ServesFrom 9 4 kind → is_auxiliary kind ≡ false → last < pid → pid < 2147483648 → MayAssign d 4 pid kind
@@ -25,7 +25,7 @@ moved d e s x notes last pid sees became top = record {
   last_pid = ap (λ (n : RosterNotes). n.last_pid) became.notes_are ∙ top;
 }
 
-pub is_free : (d : RosterView ℕ) (count limit dealt : ℕ) → 9 ≤ count → d ≡ new_roster count limit dealt → IsFree d 0
+pub is_free : (d : RosterView ℕ) (count : ℕ) (limit : SessionLimit) (dealt : ℕ) → 9 ≤ count → d ≡ new_roster count limit dealt → IsFree d 0
 is_free d count limit dealt many is = subst (λ (z : RosterView ℕ). IsFree z 0) (sym is) record {
   count = subst (λ (n : ℕ). 9 ≤ n) (sym (length-replicate count (slot_view [] Unused))) many;
   driven = ap (λ (x : SlotView ℕ). x.sight) (same_everywhere count 4 (slot_view [] Unused));

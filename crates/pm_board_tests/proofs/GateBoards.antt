@@ -3,21 +3,21 @@ use Rattle.std.proofs.{Common.{◌≡◌, ℕ, suc, ◌+◌, ◌<◌, ◌≤◌,
 use mathlib.Core.Logic.{dite}
 use native.Mathlib.Decide.{ℕ_discrete, dec_le}
 use Rattle.std.specs.Prelude.{true, false, Option, Some, None, IfSome, MatchOption}
-use Rattle.pm_board.specs.{pm_facts.Lists.same_everywhere, pm_exit.declared.child.Kind.Kind, declared.views.{Offer.Offer, RosterNotes.RosterNotes, RosterStep.RosterStep, RosterView.RosterView, Sight.{Sight, TheVariants.{Unused, Assigned}}, SlotView.SlotView, Work.TheVariants.Idle}, Places.{slot_at, slot_view, lost, is_auxiliary, is_connection, SlotServes, IsReaped, MayAssign, is_used, used_in}, Words.bit, Gate.gate_of, Told.{new_roster, after_step}, Models.{PostModel, SlotBecame, AreNewPosts, MayOpen, MayReset}, Posts.AllIdle}
+use Rattle.pm_board.specs.{pm_facts.Lists.same_everywhere, pm_exit.declared.child.Kind.Kind, declared.views.{SessionLimit.SessionLimit, Offer.Offer, RosterNotes.RosterNotes, RosterStep.RosterStep, RosterView.RosterView, Sight.{Sight, TheVariants.{Unused, Assigned}}, SlotView.SlotView, Work.TheVariants.Idle}, Places.{slot_at, slot_view, lost, is_auxiliary, is_connection, SlotServes, IsReaped, MayAssign, is_used, used_in}, Words.bit, Gate.gate_of, Told.{new_roster, after_step}, Models.{PostModel, SlotBecame, AreNewPosts, MayOpen, MayReset}, Posts.AllIdle}
 use Rattle.atomic_table.specs.Seated.{TableId}
 use Rattle.pm_board_tests.specs.GateChildren.{HasChildren, IsEmpty, IsUntouched, IsAtSlot, HasBegun, HasReaped, HasVisited}
 
 abbrev new_slot : SlotView ℕ
 new_slot = slot_view [] Unused
 
-pub untouched : (d : RosterView ℕ) (limit dealt : ℕ) → d ≡ new_roster 15 limit dealt → IsUntouched d
+pub untouched : (d : RosterView ℕ) (limit : SessionLimit) (dealt : ℕ) → d ≡ new_roster 15 limit dealt → IsUntouched d
 untouched d limit dealt is = record {
   count = ap (λ (z : RosterView ℕ). length z.slots) is ∙ length-replicate 15 new_slot;
   each = λ k. ap (λ (z : RosterView ℕ). slot_at z k) is ∙ same_everywhere 15 k new_slot;
   last_pid = ap (λ (z : RosterView ℕ). z.notes.last_pid) is;
 }
 
-pub all_idle : (count limit : ℕ) (t : TableId) (posts : List (PostModel ℕ)) → AreNewPosts count limit t posts → AllIdle posts
+pub all_idle : (count : ℕ) (limit : SessionLimit) (t : TableId) (posts : List (PostModel ℕ)) → AreNewPosts count limit t posts → AllIdle posts
 all_idle count limit t posts new k p e = ap (λ (q : PostModel ℕ). q.knows.work) (new.1 k p e)
 
 pub first_idle : (r : Option (PostModel ℕ)) (posts rest : List (PostModel ℕ)) → MatchOption r ((posts ≡ []) × (rest ≡ [])) (λ p. posts ≡ p ∷ rest) → AllIdle posts → IfSome r (λ p. p.knows.work ≡ Idle)

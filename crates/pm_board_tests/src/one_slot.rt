@@ -5,7 +5,7 @@ ghost use Rattle.pm_board.specs.{Words.status_number, Places.is_auxiliary, decla
 ghost use Rattle.pm_board_tests.specs.Drive.{IsFree, ServesFrom};
 
 use crate::notes::Note;
-use pm_board::{Board, Look, Post, Released, Roster, Started};
+use pm_board::{Board, Look, Post, Released, Roster, SessionLimit, Started};
 use pm_exit::{Kind, Status};
 use std::alloc::{AllocError, Global};
 use std::sync::Wait;
@@ -14,6 +14,11 @@ use std::thread;
 
 /// At least nine.
 const SLOTS: u32 = 9;
+/// One session may be attached.
+const LIMIT: SessionLimit = SessionLimit {
+    most: 1,
+    reserved: 0,
+};
 /// A slot that serves sessions.
 const SLOT: u32 = 4;
 
@@ -108,7 +113,7 @@ fn make_board(alloc: Global, slots: u32) -> Result<(Roster<Note>, Post<Note>), A
     requires { (9 ≤ slots) × (slots ≤ 407) }
     ensures { IfOk result (λ made. IsFree made.0.knows 0 × (made.1.knows.work ≡ Idle)) }
 {
-    let (roster, mut posts) = Board::new::<Note>(alloc, slots, 1)?;
+    let (roster, mut posts) = Board::new::<Note>(alloc, slots, LIMIT)?;
     for _ in 0..SLOT {
         posts.take();
     }
@@ -130,7 +135,11 @@ fn a_thousand_children_of_one_slot(rt: HostRuntime) -> Result<(), Fail> {
 
 #[test]
 fn a_board_has_as_many_slots_as_it_may(rt: HostRuntime) -> Result<(), Fail> {
-    let (roster, mut posts) = Board::new::<Note>(rt.alloc(), 407, 200)?;
+    let limit = SessionLimit {
+        most: 200,
+        reserved: 199,
+    };
+    let (roster, mut posts) = Board::new::<Note>(rt.alloc(), 407, limit)?;
     assert_eq!(rt; (roster.slots(), roster.used()), (407, 0));
     for _ in 0..407 {
         assert!(rt; posts.take().is_some());

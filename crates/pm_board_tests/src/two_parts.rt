@@ -100,7 +100,7 @@ const PLACE: Hand = Hand {
     place: 0,
     firsts: 0,
     before: 0,
-    behind: 0,
+    after: 0,
 };
 
 // Both counters at 0.

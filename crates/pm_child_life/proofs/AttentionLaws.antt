@@ -1,6 +1,6 @@
 -- Laws of what a child was told and hears, from one moment to the next, and of what stands.
-use Rattle.std.{proofs.Common.{◌≡◌, inl, inr, ℕ, ◌+◌, Option, None, Some, Result, refl, ◌∙◌, subst, arith}, specs.Option.option_map}
-use Rattle.pm_child_life.specs.{declared.{standing.Standing.Standing, life.GateNo.GateNo}, Life.{Child, Told, Signal, Cancel, met_at_gate, was_told}, Attention.{Attention, attention, was_given, Stands, IsAttentive, IsBy, HasAsked, KeepsCancels, Gains, HasGained, GivenSince, GivenNoMore, Hears}}
+use Rattle.std.{proofs.Common.{◌≡◌, inl, inr, ℕ, ◌+◌, Option, None, Some, refl, sym, ◌∙◌, subst, arith}, specs.Option.option_map}
+use Rattle.pm_child_life.specs.{declared.{standing.Standing.Standing, life.Attempt.Attempt}, Life.{Child, Told, Signal, Cancel, IsUntouched, met_at_gate, was_told}, Attention.{Attention, attention, was_given, Stands, IsAttentive, IsBy, HasAsked, KeepsCancels, Gains, HasGained, GivenSince, GivenNoMore, Hears}}
 
 -- ---- what was told, from one moment to the next
 
@@ -121,10 +121,10 @@ pub given_of : (at : Attention) (signal : Signal) → ((t : Told) → Stands at.
 given_of at signal gives attentive = given_if at.told at.child at.standing signal gives attentive
 
 -- what the gate answers changes nothing of what stands
-pub attentive_at_gate : (answer : Result ℕ GateNo) (before now : Option Told) (child_before child : Child) (standing : Standing) → now ≡ option_map (met_at_gate answer) before → IsAttentive (attention before child_before standing)
+pub attentive_at_gate : (attempt : Attempt) (before now : Option Told) (child_before child : Child) (standing : Standing) → now ≡ option_map (met_at_gate attempt) before → IsAttentive (attention before child_before standing)
     → IsAttentive (attention now child standing)
-attentive_at_gate answer None now child_before child standing e stands = rw e tt
-attentive_at_gate answer (Some told) now child_before child standing e stands = rw e (record {
+attentive_at_gate attempt None now child_before child standing e stands = rw e tt
+attentive_at_gate attempt (Some told) now child_before child standing e stands = rw e (record {
   kill = stands.kill;
   quit = stands.quit;
   quits = stands.quits;
@@ -133,3 +133,19 @@ attentive_at_gate answer (Some told) now child_before child standing e stands = 
   checkpoint = stands.checkpoint;
   asked = stands.asked;
 })
+
+-- ---- a child whose life no call has touched
+
+pub untouched_on : (child_before child_between child_now : Child) (told_before told_between told_now : Option Told) → IsUntouched child_before child_between told_before told_between
+    → IsUntouched child_between child_now told_between told_now → IsUntouched child_before child_now told_before told_now
+untouched_on child_before child_between child_now told_before told_between told_now one two = record { child_is = two.child_is ∙ one.child_is; told_is = two.told_is ∙ one.told_is }
+
+pub attention_still : (child_before child_now : Child) (told_before told_now : Option Told) (standing : Standing) → IsUntouched child_before child_now told_before told_now
+    → attention told_now child_now standing ≡ attention told_before child_before standing
+attention_still child_before child_now told_before told_now standing same = rw (same.child_is, same.told_is) refl
+
+-- what stood before it stands after it
+pub attentive_still : (child_before child_now : Child) (told_before told_now : Option Told) (standing : Standing) → IsUntouched child_before child_now told_before told_now
+    → IsAttentive (attention told_before child_before standing) → IsAttentive (attention told_now child_now standing)
+attentive_still child_before child_now told_before told_now standing same attentive =
+    subst (λ (at : Attention). IsAttentive at) (sym (attention_still child_before child_now told_before told_now standing same)) attentive

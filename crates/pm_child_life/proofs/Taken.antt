@@ -1,5 +1,5 @@
 -- The signals of one answer, and what stands after it.
-use Rattle.std.{proofs.{Common.{◌≡◌, ◌≢◌, ◌↔◌, ◌⊎◌, inl, inr, ℕ, ◌+◌, ◌-◌, ◌<◌, ◌||◌, Bool, true, false, IsTrue, List, [], ◌∷◌, ◌++◌, length, get_or, Option, None, Some, refl, sym, ◌∙◌, ap, subst, arith}, lemmas.{List.{length-map, get_or-map, Elements.{Contains-append_left, Contains-append_right, Contains-append_cases, Contains-push, Contains-push_cases}}, Bool.true≢false}}, specs.{Option.{option_map, option_or}, List.Contains}}
+use Rattle.std.{proofs.{Common.{◌≡◌, ◌≢◌, ◌↔◌, ◌⊎◌, inl, inr, ℕ, ◌<◌, ◌||◌, Bool, true, false, IsTrue, List, [], ◌∷◌, ◌++◌, length, get_or, Option, None, Some, refl, sym, ◌∙◌, ap, subst, arith}, lemmas.{List.{length-map, get_or-map, Elements.{Contains-append_left, Contains-append_right, Contains-append_cases, Contains-push, Contains-push_cases}}, Bool.true≢false}}, specs.{Option.{option_map, option_or}, List.Contains}}
 use Rattle.pm_supervisor.specs.declared.Reason.{Reason}
 use Rattle.pm_child_life.specs.{declared.{life.Signals.Signals, standing.Standing.Standing}, Life.{Child, Told, Signal, Kill, Quit, Terminate, Cancel, Checkpoint, one_if, quit_in, signals_in, next_ask, numbered, asked_again, was_told}, Attention.{attention, with_signals, was_given, Stands, IsAttentive, IsBy, HasAsked, KeepsCancels, HasGained, GivenSince, GivenNoMore, CancelStands, Hears}}
 

@@ -1,5 +1,5 @@
 -- What a child was told, and what of it still stands to be heeded.
-use Rattle.std.specs.{Prelude.{◌≡◌, ◌≢◌, ◌⊎◌, ◌↔◌, ℕ, ◌+◌, ◌-◌, ◌^◌, ◌≤◌, ◌||◌, min, Bool, true, false, Option, None, Some, IfSome, IsTrue}, Option.option_or, List.Contains}
+use Rattle.std.specs.{Prelude.{◌≡◌, ◌≢◌, ◌⊎◌, ◌↔◌, ℕ, ◌+◌, ◌-◌, ◌^◌, ◌≤◌, ◌||◌, min, false, Option, None, Some, IfSome, IsTrue}, Option.option_or, List.Contains}
 use Rattle.pm_supervisor.specs.declared.Reason.{Reason}
 use Rattle.pm_child_life.specs.{declared.{life.Signals.Signals, standing.Standing.Standing}, Life.{Child, Told, Signal, Kill, Quit, Terminate, Cancel, Checkpoint, next_ask, was_told}}
 

@@ -1,7 +1,7 @@
 -- What a child's life tells.
-use Rattle.std.specs.{Prelude.{◌≡◌, ℕ, ◌+◌, ◌-◌, ◌^◌, ◌++◌, min, cond, map, Bool, List, [], ◌∷◌, Option, None, Some, IfSome, Result}, List.Contains}
+use Rattle.std.specs.{Prelude.{◌≡◌, ℕ, ◌+◌, ◌-◌, ◌^◌, ◌++◌, min, cond, map, option_map, Bool, false, List, [], ◌∷◌, Option, None, Some, IfSome, Result}, List.Contains}
 use Rattle.pm_supervisor.specs.declared.Reason.{Reason}
-use Rattle.pm_child_life.specs.declared.life.{GateNo.GateNo, Signals.Signals}
+use Rattle.pm_child_life.specs.declared.life.{Attempt.Attempt, GateNo.GateNo, Signals.Signals}
 
 -- whose life it is, whether it is a dead-end child's, and in which generation that child is attached, if it is
 pub record Child : Type 0 where
@@ -41,7 +41,7 @@ signals_in signals =
 pub record Told : Type 0 where
   pub asked : ℕ
   pub given : List (ℕ × Signal)
-  pub met : Option (Result ℕ GateNo)
+  pub met : Option Attempt
   pub cancels : List (ℕ × ℕ)
 
 -- of a child that has just started
@@ -63,8 +63,16 @@ asked_again signals told = record told {
   given = told.given ++ numbered (next_ask told.asked) (signals_in signals);
 }
 
-abbrev pub met_at_gate : Result ℕ GateNo → Told → Told
-met_at_gate answer told = record told { met = Some answer }
+-- This answer was met by a child that came to the gate as an ordinary one, or as one for whom the reserved places are kept too.
+abbrev pub attempt : (is_ordinary : Bool) → Result ℕ GateNo → Attempt
+attempt is_ordinary answer = record { is_ordinary = is_ordinary; answer = answer }
+
+abbrev pub met_at_gate : Attempt → Told → Told
+met_at_gate attempt told = record told { met = Some attempt }
+
+-- the answer that it last met there
+abbrev pub answer_met : Told → Option (Result ℕ GateNo)
+answer_met told = option_map (λ attempt. attempt.answer) told.met
 
 abbrev pub asked_cancel : (pid key : ℕ) → Told → Told
 asked_cancel pid key told = record told { cancels = told.cancels ++ (pid, key) ∷ [] }
@@ -80,3 +88,19 @@ IsUntried told = IfSome told (λ t. t.met ≡ None)
 -- where it tells, it has asked for no cancel
 abbrev pub HasNoCancel : Option Told → Type 0
 HasNoCancel told = IfSome told (λ t. t.cancels ≡ [])
+
+-- the child lives as it did
+pub record IsUntouched (child_before child_now : Child) (told_before told_now : Option Told) : Type 0 where
+  pub child_is : child_now ≡ child_before
+  pub told_is : told_now ≡ told_before
+
+-- of a life that has no store beside it: at any two moments none was touched
+abbrev pub HasNoStore : {L : Type 0} → (before now : L) → Type 0
+HasNoStore before now = Unit {0}
+
+-- of a store that has no life beside it: no child sits there
+abbrev pub no_child : Child
+no_child = record { pid = 0; is_dead_end = false; attached = None }
+
+abbrev pub TouchesNoChild : Type 0
+TouchesNoChild = IsUntouched no_child no_child None None

@@ -1,5 +1,5 @@
 -- What a scripted life tells.
-use Rattle.std.specs.{Prelude.{◌≡◌, ℕ, ◌+◌, ◌++◌, min, false, length, slice_index_or, List, [], ◌∷◌, take, Option, None, Some}, Option.option_to_list}
+use Rattle.std.specs.{Prelude.{◌≡◌, ℕ, ◌+◌, ◌++◌, min, false, length, slice_index_or, List, [], ◌∷◌, take, None}, Option.option_to_list}
 use Rattle.pm_child_life.specs.{declared.{life.Signals.Signals, scripted.ScriptedLife.ScriptedLife}, Life.{Child, Signal, Told, signals_in, numbered}}
 
 abbrev pub child_of_script : ScriptedLife → Child

@@ -3,9 +3,11 @@
 
 mod life;
 mod scripted;
+mod seat;
 mod standing;
 
-pub use life::{Cancelled, GateNo, Life, Signals};
+pub use life::{Attempt, Cancelled, GateNo, Life, Signals};
 pub use pm_supervisor::Reason;
 pub use scripted::ScriptedLife;
+pub use seat::Seat;
 pub use standing::{Standing, listen};

@@ -1,7 +1,8 @@
 //! A life that goes by a script, for tests and for a child that is alone.
 ghost use Rattle.std.specs.Prelude.{◌≡◌, ◌≤◌, ◌<◌, length};
 
-use crate::life::{Cancelled, GateNo, Life, Signals};
+use crate::life::{Attempt, Cancelled, GateNo, Life, Signals};
+use crate::seat::Seat;
 use std::alloc::Global;
 
 /// An answer to an ask for which no signal stands.
@@ -23,7 +24,7 @@ pub struct ScriptedLife {
     given: usize,
     asked: u64,
     gate: Result<u32, GateNo>,
-    met: Option<Result<u32, GateNo>>,
+    met: Option<Attempt>,
     cancelled: Cancelled,
     asked_cancel: Option<(u32, u32)>,
     ghost in_range: { given ≤ length script.items },
@@ -100,13 +101,20 @@ impl ScriptedLife {
     }
 }
 
-impl Life for ScriptedLife {
-    ghost use Rattle.std.specs.Prelude.{None, Some, IsTrue, IfOk, OnErr, option_map};
-    ghost use Rattle.pm_child_life.specs.{Life.{HasNoCancel, asked_again, asked_cancel, attached_in, met_at_gate}, Scripted.{GivesNext, child_of_script, told_by_script}};
+impl Seat for ScriptedLife {
+    ghost use Rattle.std.specs.Prelude.{Some};
+    ghost use Rattle.pm_child_life.specs.{Life.HasNoStore, Scripted.{child_of_script, told_by_script}};
 
     ghost child = { child_of_script };
 
     ghost told = { λ life. Some (told_by_script life) };
+
+    ghost rests = { HasNoStore };
+}
+
+impl Life for ScriptedLife {
+    ghost use Rattle.std.specs.Prelude.{None, Some, IsTrue, IfOk, OnErr, option_map};
+    ghost use Rattle.pm_child_life.specs.{Life.{HasNoCancel, HasNoStore, asked_again, asked_cancel, attached_in, attempt, met_at_gate}, Scripted.{GivesNext, child_of_script, told_by_script}};
 
     fn pid(&self) -> u32 {
         self.pid
@@ -116,6 +124,7 @@ impl Life for ScriptedLife {
         ensures told { Some (told_by_script self.new) ≡ option_map (asked_again result)
             (Some (told_by_script self.old)) }
         ensures child { child_of_script self.new ≡ child_of_script self.old }
+        ensures rests { HasNoStore self.old self.new }
         ensures script { GivesNext self.old result self.new }
     {
         self.asked = self.asked.saturating_add(1);
@@ -127,17 +136,21 @@ impl Life for ScriptedLife {
         signals
     }
 
-    fn attach(&mut self) -> Result<u32, GateNo>
+    fn attach(&mut self, is_ordinary: bool) -> Result<u32, GateNo>
         requires free { (child_of_script self.old).attached ≡ None }
         requires may { ¬ (IsTrue (child_of_script self.old).is_dead_end) }
         ensures ok { IfOk result (λ generation. child_of_script self.new ≡ attached_in generation
             (child_of_script self.old)) }
         ensures refused { OnErr result (child_of_script self.new ≡ child_of_script self.old) }
-        ensures told { Some (told_by_script self.new) ≡ option_map (met_at_gate result)
+        ensures told { Some (told_by_script self.new) ≡ option_map (met_at_gate (attempt is_ordinary result))
             (Some (told_by_script self.old)) }
+        ensures rests { HasNoStore self.old self.new }
         ensures script { result ≡ self.old.gate }
     {
-        self.met = Some(self.gate);
+        self.met = Some(Attempt {
+            is_ordinary,
+            answer: self.gate,
+        });
         if let Ok(generation) = self.gate {
             self.attached = Some(generation);
         }
@@ -153,9 +166,14 @@ impl Life for ScriptedLife {
         ensures told { Some (told_by_script self.new) ≡ option_map (asked_cancel pid key)
             (Some (told_by_script self.old)) }
         ensures child { child_of_script self.new ≡ child_of_script self.old }
+        ensures rests { HasNoStore self.old self.new }
         ensures script { result ≡ self.old.cancelled }
     {
         self.asked_cancel = Some((pid, key));
         self.cancelled
     }
+
+    ghost stands_still = { λ life. tt };
+
+    ghost rests_on = { λ before between now one two. tt };
 }

@@ -52,6 +52,7 @@ pub fn listen<F: Life>(life: &mut F, standing: &mut Standing)
         standing.new) }
     ensures cancel { CancelStands (attention (F.told life.old) (F.child life.old) standing.old)
         (attention (F.told life.new) (F.child life.new) standing.new) }
+    ensures rests { F.rests life.old life.new }
 {
     *standing = standing.with(life.signals());
 }

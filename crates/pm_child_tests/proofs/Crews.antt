@@ -1,7 +1,7 @@
 -- How the board of the tests moves.
 use Rattle.std.proofs.{Common.{◌≡◌, ℕ, [], length, sym, ap, ◌∙◌, subst}, lemmas.List.length-replicate}
 use Rattle.pm_query.specs.pm_facts.Lists.{same_everywhere}
-use Rattle.pm_board.specs.{declared.views.{RosterNotes.RosterNotes, RosterStep.RosterStep, RosterView.RosterView, Sight.TheVariants.Unused, SlotView.SlotView}, Places.{slot_at, slot_view, IsReaped}, Told.{new_roster, after_step}, Models.SlotBecame}
+use Rattle.pm_board.specs.{declared.views.{SessionLimit.SessionLimit, RosterNotes.RosterNotes, RosterStep.RosterStep, RosterView.RosterView, Sight.TheVariants.Unused, SlotView.SlotView}, Places.{slot_at, slot_view, IsReaped}, Told.{new_roster, after_step}, Models.SlotBecame}
 use Rattle.pm_child_tests.specs.Crew.{IsSettled, IsManned, IsFresh, HasLookedAt}
 
 -- ---- posts
@@ -28,7 +28,7 @@ looked_ended {D} k d e f x y n m a b free_ p₁ c₁ p₂ c₂ =
 
 -- ---- the board
 
-pub new_fresh : {D : Type 0} (d : RosterView D) (limit dealt : ℕ) → d ≡ new_roster 47 limit dealt → IsFresh d 0
+pub new_fresh : {D : Type 0} (d : RosterView D) (limit : SessionLimit) (dealt : ℕ) → d ≡ new_roster 47 limit dealt → IsFresh d 0
 new_fresh {D} d limit dealt is =
     let blank : SlotView D = slot_view [] Unused in
     let new : (j : ℕ) → slot_at d j ≡ blank = (λ j. ap (λ (z : RosterView D). slot_at z j) is ∙ same_everywhere 47 j blank) in

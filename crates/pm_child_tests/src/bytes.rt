@@ -26,6 +26,7 @@ STARTING_UP = E\0\0\0\x3eSFATAL\0VFATAL\0C57P03\0Mthe database system is startin
 SHUTTING_DOWN = E\0\0\0\x40SFATAL\0VFATAL\0C57P03\0Mthe database system is shutting down\0\0
 IN_RECOVERY = E\0\0\0\x43SFATAL\0VFATAL\0C57P03\0Mthe database system is in recovery mode\0\0
 TOO_MANY = E\0\0\0\x3bSFATAL\0VFATAL\0C53300\0Msorry, too many clients already\0\0
+RESERVED = E\0\0\0\x55SFATAL\0VFATAL\0C53300\0Mremaining connection slots are reserved for user postgres\0\0
 TERMINATED = E\0\0\0\x4fSFATAL\0VFATAL\0C57P01\0Mterminating connection due to administrator command\0\0
 CRASH_QUIT = N\0\0\0\x61SWARNING\0VWARNING\0C57P02\0Mterminating connection because of crash of another server process\0\0
 UNKNOWN_TYPE = E\0\0\0\x3cSFATAL\0VFATAL\0C08P01\0Minvalid frontend message type 63\0\0

@@ -41,6 +41,7 @@ at the gate behind a crash | gate crash | PACKET TERMINATE | Code(1) IN_RECOVERY
 at the gate of a stop | gate stop | PACKET TERMINATE | Code(1) SHUTTING_DOWN
 at a gate that isn't ready | gate unready | PACKET TERMINATE | Code(1) IN_RECOVERY
 too many at the gate | gate full | PACKET TERMINATE | Code(1) TOO_MANY
+the last places at the gate are reserved | gate reserved | PACKET TERMINATE | Code(1) RESERVED
 a cancel while the server starts | startup | CANCEL | Code(0)
 another generation, left without a word | gate 2 | PACKET TERMINATE | Signal(6)
 killed outside | told kill | - | Signal(9)

@@ -7,6 +7,7 @@ use pm_aux::{AuxDone, startup, writer};
 use pm_child_life::{Cancelled, ScriptedLife};
 use pm_exit::Status;
 use pm_outside::{Kept, MemClock};
+use pm_query::Work;
 use pm_rows_tests::{GENERATION, MemStore, ask};
 use pm_sql::{Script, parse};
 use std::alloc::Global;
@@ -48,18 +49,24 @@ fn query(alloc: Global, text: &str) -> Result<Script, Fail> {
 #[test]
 fn a_writer_that_is_told_to_terminate_flushes_all(rt: HostRuntime) -> Result<(), Fail> {
     let alloc = rt.alloc();
-    let mut store = MemStore::new(alloc, ShortBook::new(Kept::new(alloc), Vec::new(alloc)));
-    let mut life = ScriptedLife::quiet(alloc, 1, GENERATION);
-    assert_eq!(rt; startup(&mut store, &mut life).kept, Some(0));
+    let store = MemStore::new(alloc, ShortBook::new(Kept::new(alloc), Vec::new(alloc)));
+    let mut work = Work {
+        life: ScriptedLife::quiet(alloc, 1, GENERATION),
+        store,
+    };
+    assert_eq!(rt; startup(&mut work).kept, Some(0));
+    let mut store = work.store;
     for key in 0..600 {
         let text = format!(in alloc; "INSERT INTO kv VALUES ({key}, 'x')")?;
         let insert = query(alloc, text.as_str())?;
         assert!(rt; ask(&mut store, 4, GENERATION, &insert)?.is_none());
     }
     let script = script_of(alloc, "terminate")?;
-    let mut life = ScriptedLife::new(PID, false, script, Ok(GENERATION), Cancelled::NoSuchPid);
+    let life = ScriptedLife::new(PID, false, script, Ok(GENERATION), Cancelled::NoSuchPid);
     let clock = MemClock::new(alloc, 0, rt)?;
-    let done = writer(&rt, &mut store, &clock, &mut life);
+    let mut work = Work { life, store };
+    let done = writer(&rt, &mut work, &clock);
+    let mut store = work.store;
     let wanted = AuxDone {
         status: Status::Code(0),
         fault: None,

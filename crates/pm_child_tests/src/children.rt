@@ -5,7 +5,7 @@ use crate::short_book::ShortBook;
 use pm_aux::{checkpointer, startup, writer};
 use pm_child_life::{Cancelled, ScriptedLife};
 use pm_outside::{Clock, Kept, MemClock};
-use pm_query::{BookEntry, CHECKPOINT_BYTES};
+use pm_query::{BookEntry, CHECKPOINT_BYTES, Work};
 use pm_rows_tests::{Fault, GENERATION, MemStore};
 use std::alloc::Global;
 use std::sync::Wait;
@@ -66,8 +66,10 @@ fn store_of(alloc: Global, found: &str, short: &str) -> Result<MemStore<ShortBoo
     }
     let mut store = MemStore::new(alloc, ShortBook::new(Kept::new(alloc), failing));
     if is_read {
-        let mut life = ScriptedLife::quiet(alloc, 1, GENERATION);
-        startup(&mut store, &mut life);
+        let life = ScriptedLife::quiet(alloc, 1, GENERATION);
+        let mut work = Work { life, store };
+        startup(&mut work);
+        store = work.store;
     }
     match found {
         "due" => store.grow(CHECKPOINT_BYTES),
@@ -91,15 +93,17 @@ pub fn run<R: Wait + time::Clock + Copy + Drop>(
     let (child, gate) = child.split_once(" gate ").unwrap_or((child, ""));
     let (child, short) = child.split_once(" short ").unwrap_or((child, ""));
     let (kind, found) = child.split_once(' ').unwrap_or((child, "read"));
-    let mut store = store_of(alloc, found, short)?;
+    let store = store_of(alloc, found, short)?;
     let script = script_of(alloc, signals)?;
-    let mut life = ScriptedLife::new(PID, false, script, gate_of(gate), Cancelled::NoSuchPid);
+    let life = ScriptedLife::new(PID, false, script, gate_of(gate), Cancelled::NoSuchPid);
     let clock = MemClock::new(alloc, 0, *rt)?;
+    let mut work = Work { life, store };
     let done = match kind {
-        "startup" => startup(&mut store, &mut life),
-        "writer" => writer(rt, &mut store, &clock, &mut life),
-        _ => checkpointer(rt, &mut store, &clock, &mut life),
+        "startup" => startup(&mut work),
+        "writer" => writer(rt, &mut work, &clock),
+        _ => checkpointer(rt, &mut work, &clock),
     };
+    let Work { life, store } = work;
     let book = store.into_book();
     let is_read = found != "unread";
     let others = if is_read { READING_NOTES } else { 0 };

@@ -8,7 +8,7 @@ use pm_admit::Cac;
 use pm_child_life::{Cancelled, Life, ScriptedLife};
 use pm_exit::Status;
 use pm_outside::{Chronicle, Clock, Kept, LinkScript, MemClock, MemLink};
-use pm_query::{BookEntry, Store};
+use pm_query::{BookEntry, Store, Work};
 use pm_rows_tests::MemStore;
 use pm_session::{Admission, Done, Means, SessionConf, serve};
 use std::alloc::{AllocError, Global};
@@ -91,14 +91,16 @@ pub fn serve_link<R: Wait, C: Clock>(
     let script = script_of(alloc, meets.strip_prefix("told ").unwrap_or(""))?;
     let gate = gate_of(meets.strip_prefix("gate ").unwrap_or(""));
     let life = ScriptedLife::new(PID, false, script, gate, Cancelled::NoSuchPid);
-    let mut store = MemStore::new(alloc, Kept::<BookEntry>::new(alloc));
+    let store = MemStore::new(alloc, Kept::<BookEntry>::new(alloc));
     let conf = SessionConf { authentication_ms };
     let means = Means { rt, alloc, clock };
     let admission = Admission {
         decision: decision_of(meets),
         key: KEY,
     };
-    let Done { status, link, life } = serve(&means, link, life, admission, &conf, &mut store);
+    let work = Work { life, store };
+    let Done { status, link, work } = serve(&means, link, work, admission, &conf);
+    let Work { life, store } = work;
     Ok(Outcome {
         status,
         sent: link.sent().to_vec(alloc)?,

@@ -52,6 +52,7 @@ pub fn gate_of(word: &str) -> Result<u32, GateNo> {
         "2" => Ok(2),
         "unready" => Err(GateNo::NotReady { generation }),
         "full" => Err(GateNo::TooMany { count: 100 }),
+        "reserved" => Err(GateNo::Reserved { count: 97 }),
         "crash" => Err(GateNo::Quit {
             generation,
             reason: Reason::Crash,

@@ -9,6 +9,7 @@ use pm_admit::Cac;
 use pm_child_life::{Cancelled, ScriptedLife};
 use pm_exit::Status;
 use pm_outside::{Forgotten, Got, Link, LinkScript, MemClock, MemLink, Put};
+use pm_query::Work;
 use pm_rows_tests::MemStore;
 use pm_session::{Admission, Done, Means, SessionConf, serve};
 use std::alloc::Global;
@@ -82,7 +83,7 @@ fn serve_slowly<R: Wait + time::Clock + Copy + Drop>(
         gate,
         Cancelled::NoSuchPid,
     );
-    let mut store = MemStore::new(alloc, Forgotten::new());
+    let store = MemStore::new(alloc, Forgotten::new());
     let conf = SessionConf {
         authentication_ms: 60_000,
     };
@@ -96,8 +97,9 @@ fn serve_slowly<R: Wait + time::Clock + Copy + Drop>(
         decision: Cac::Ok,
         key: KEY,
     };
-    let Done { status, link, life } = serve(&means, link, life, admission, &conf, &mut store);
-    drop(life);
+    let work = Work { life, store };
+    let Done { status, link, work } = serve(&means, link, work, admission, &conf);
+    drop(work);
     Ok((status, link))
 }
 

@@ -3,9 +3,9 @@ ghost use Rattle.std.specs.Prelude.{◌≡◌, ⊤};
 
 use crate::lives::script_of;
 use pm_aux::{checkpointer, startup};
-use pm_child_life::{Cancelled, ScriptedLife};
+use pm_child_life::{Cancelled, ScriptedLife, Seat};
 use pm_outside::{Clock, Forgotten};
-use pm_query::{Checkpointed, Seen, Staged, Stepping, Store, StoreNo};
+use pm_query::{Checkpointed, Seen, Staged, Stepping, Store, StoreNo, Work};
 use pm_rows_tests::{GENERATION, MemStore};
 use pm_sql::Script;
 use std::alloc::{AllocError, Global};
@@ -42,7 +42,19 @@ impl<S: Store + Drop> Stepped<S> {
     }
 }
 
+impl<S: Store + Drop> Seat for Stepped<S> {
+    ghost use Rattle.std.specs.Prelude.{◌≡◌};
+
+    ghost child = { λ stepped. S.child stepped.store };
+
+    ghost told = { λ stepped. S.told stepped.store };
+
+    ghost rests = { λ before now. now.store ≡ before.store };
+}
+
 impl<S: Store + Drop> Store for Stepped<S> {
+    ghost use Rattle.std.proofs.Common.{[], ap, subst, sym};
+
     type Pass = S::Pass;
 
     ghost notes = { λ entries before now. S.notes entries before.store now.store };
@@ -102,6 +114,12 @@ impl<S: Store + Drop> Store for Stepped<S> {
     }
 
     ghost at_rest = { λ stepped. S.at_rest stepped.store };
+
+    ghost apart = { λ before now same. subst (λ store. S.notes [] before.store store) (sym same) (S.at_rest before.store) };
+
+    ghost admits_still = { λ before now pass same admits. subst (λ store. S.admits store pass) (sym same) admits };
+
+    ghost met_still = { λ before now same. ap S.met same };
 
     ghost in_turn = { λ before between now. S.in_turn before.store between.store now.store };
 
@@ -163,19 +181,25 @@ fn run<R: Wait + Copy + Drop>(
     steps: &str,
     signals: &str,
 ) -> Result<String, Fail> {
-    let mut store = Stepped {
+    let store = Stepped {
         store: MemStore::new(alloc, Forgotten::new()),
         steps: steps.parse::<u64>().ok().ok_or("a number")?,
         calls: String::new(alloc),
     };
-    startup(&mut store, &mut ScriptedLife::quiet(alloc, 1, GENERATION));
+    let mut work = Work {
+        life: ScriptedLife::quiet(alloc, 1, GENERATION),
+        store,
+    };
+    startup(&mut work);
+    let store = work.store;
     let script = script_of(alloc, signals)?;
-    let mut life = ScriptedLife::new(2, false, script, Ok(GENERATION), Cancelled::NoSuchPid);
+    let life = ScriptedLife::new(2, false, script, Ok(GENERATION), Cancelled::NoSuchPid);
     let clock = PauseCounts::new(*rt);
-    let status = checkpointer(rt, &mut store, &clock, &mut life).status;
+    let mut work = Work { life, store };
+    let status = checkpointer(rt, &mut work, &clock).status;
     let brief = clock.brief.load(Ordering::SeqCst);
     let others = clock.others.load(Ordering::SeqCst);
-    let calls = store.calls.as_str();
+    let calls = work.store.calls.as_str();
     Ok(format!(in alloc; "{status:?} {calls} {brief} {others}")?)
 }
 

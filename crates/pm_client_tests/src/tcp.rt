@@ -8,6 +8,7 @@ use pm_exit::Status;
 use pm_outside::{Accepted, Forgotten, MemClock, MemSink, Port};
 use pm_outside_net::{Bells, TcpLink, TcpPort};
 use pm_outside_streams::StandardLink;
+use pm_query::Work;
 use pm_rows_tests::{GENERATION, MemStore};
 use pm_session::{Admission, Done, Means, SessionConf, serve};
 use std::alloc::Global;
@@ -57,15 +58,16 @@ fn serve_one<R: Wait + Net + Clock + Copy + Drop>(
 ) -> Option<Status> {
     let link = accept(rt, port)?;
     let life = ScriptedLife::quiet(alloc, 4, GENERATION);
-    let mut store = MemStore::new(alloc, Forgotten::new());
+    let store = MemStore::new(alloc, Forgotten::new());
     let clock = MemClock::still(0, *rt);
     let means = Means {
         rt,
         alloc,
         clock: &clock,
     };
-    let Done { status, link, life } = serve(&means, link, life, ADMISSION, &CONF, &mut store);
-    drop(life);
+    let work = Work { life, store };
+    let Done { status, link, work } = serve(&means, link, work, ADMISSION, &CONF);
+    drop(work);
     port.done(link);
     Some(status)
 }

@@ -1,6 +1,6 @@
 -- What a child's calls at the gate tell.
 use Rattle.std.specs.Prelude.{◌≡◌, ℕ, Result, Ok, Err}
-use Rattle.pm_board.specs.{pm_child_life.declared.life.GateNo.GateNo, declared.views.{Offer.Offer, Work.{Work, TheVariants.{Inactive, Attached}}, PostView.PostView}, Gate.{gate_answer, generation_in}, Told.{with_work, tried_by, detached}}
+use Rattle.pm_board.specs.{pm_child_life.declared.life.{Attempt.Attempt, GateNo.GateNo}, declared.views.{Offer.Offer, Work.{Work, TheVariants.{Inactive, Attached}}, PostView.PostView}, Gate.{gate_answer, generation_in}, Told.{with_work, tried_by, detached}}
 use Rattle.pm_gate.specs.declared.tokens.Attached.{Attached as Attached_}
 
 -- the generation of who was let in, or the refusal
@@ -17,16 +17,21 @@ module _ {D : Type 0} where
   abbrev pub Stays : PostView D → PostView D → Type 0
   Stays before after = (after.work ≡ before.work) × (after.past ≡ before.past)
 
-  -- what a worker knows once its child, that met this word, got this answer: one that was refused is as before
-  abbrev pub after_attach : PostView D → Offer D → ℕ → Result ℕ GateNo → PostView D
-  after_attach w o word (Ok generation) = tried_by w o word (Ok generation)
-  after_attach w o word (Err refusal) = with_work (tried_by w o word (Err refusal)) (Inactive o)
+  -- one that was refused stands as before
+  abbrev pub back_by : Result ℕ GateNo → Offer D → PostView D → PostView D
+  back_by (Ok generation) o w = w
+  back_by (Err refusal) o w = with_work w (Inactive o)
+
+  -- what a worker knows once its child, that met this word, got the answer of this attempt
+  abbrev pub after_attach : PostView D → Offer D → ℕ → Attempt → PostView D
+  after_attach w o word attempt = back_by attempt.answer o (tried_by w o word attempt)
 
   -- the child met a word of the gate and got the answer to it
-  abbrev pub HasAttached : Result Attached_ GateNo → PostView D → PostView D → Type 0
-  HasAttached answer before after =
+  abbrev pub HasAttached : Attempt → PostView D → PostView D → Type 0
+  HasAttached attempt before after =
       (o : Offer D) → before.work ≡ Inactive o
-      → (word : ℕ) × (answer_of answer ≡ gate_answer o.kind before.notes.session_limit word) × (after ≡ after_attach before o word (answer_of answer)) × (generation_in word ≡ o.generation)
+      → (word : ℕ) × (attempt.answer ≡ gate_answer o.kind attempt.is_ordinary before.notes.session_limit word)
+      × (after ≡ after_attach before o word attempt) × (generation_in word ≡ o.generation)
 
   -- the child has let go
   abbrev pub HasLeft : ℕ → PostView D → PostView D → Type 0

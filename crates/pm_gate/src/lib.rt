@@ -3,8 +3,8 @@
 #![tactic(auto)]
 
 ghost use Rattle.std.specs.Prelude.{◌≡◌, ◌+◌, IfOk, OnErr};
-ghost use Rattle.pm_board.specs.{declared.views.RosterStep.TheVariants.{Quit, Ready, Reset}, Told.MayQuit, Models.{MayAttach, MayOpen, MayReset, HasStepped}};
-ghost use Rattle.pm_gate.specs.Attaching.{IsAttachedIn, Stays, HasAttached, HasLeft};
+ghost use Rattle.pm_board.specs.{declared.views.RosterStep.TheVariants.{Quit, Ready, Reset}, Told.MayQuit, pm_child_life.Life.attempt, Models.{MayAttach, MayOpen, MayReset, HasStepped}};
+ghost use Rattle.pm_gate.specs.Attaching.{answer_of, IsAttachedIn, Stays, HasAttached, HasLeft};
 
 mod tokens;
 
@@ -14,18 +14,19 @@ use pm_supervisor::Reason;
 pub use tokens::{Attached, Generation};
 
 /// Lets the child in that runs on the post, or says why not, by the gate's word as this call meets it: a notice comes first;
-/// a session is besides told that the gate isn't open, or that the limit of sessions is reached. A child that was refused
-/// leaves nothing behind: its place at the gate is given back, and its slot isn't active.
-pub fn attach<J: Letter + Drop>(post: &mut Post<J>) -> Result<Attached, GateNo>
+/// a session is besides told that the gate isn't open, or that the limit of sessions is reached, and an ordinary one that the places
+/// which are left are reserved. A child that was refused leaves nothing behind: its place at the gate is given back, and its slot
+/// isn't active.
+pub fn attach<J: Letter + Drop>(post: &mut Post<J>, is_ordinary: bool) -> Result<Attached, GateNo>
     requires { MayAttach post.old.knows.work }
     ensures table { post.new.table ≡ post.old.table }
     ensures slot { post.new.slot ≡ post.old.slot }
-    ensures met { HasAttached result post.old.knows post.new.knows }
+    ensures met { HasAttached (attempt is_ordinary (answer_of result)) post.old.knows post.new.knows }
     ensures attached { IfOk result (λ a. IsAttachedIn a.generation post.new.knows.work) }
     ensures refused { OnErr result (Stays post.old.knows post.new.knows) }
 {
     post.mark();
-    match post.try_gate() {
+    match post.try_gate(is_ordinary) {
         Ok(generation) => Ok(Attached { generation }),
         Err(refusal) => {
             post.back_out();

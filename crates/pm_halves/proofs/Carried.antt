@@ -3,9 +3,9 @@ use Rattle.std.proofs.Common.{◌≡◌, ℕ, ◌+◌, ◌-◌, ◌≤◌, List,
 use Rattle.atomic_table.specs.{Table.Me, Seated.TableId}
 use Rattle.pm_halves.specs.{declared.lot.Lot.{Lot, TheVariants.Second}, Halves.carried_as, Sitting.{lowered, Sitting, sitting, firsts_in, seconds_in, carried_both, AllWithin, IsLaid, IsWhole}, Places.KeepsFirst}
 
-seconds_behind : (X : Type 0) {Y : Type 0} (n : ℕ) (d : List (ℕ × Y)) → ◌≡◌ {A = List (ℕ × X)} (firsts_in (carried_as {S = Lot X Y} Second n d)) []
-seconds_behind X n [] = refl
-seconds_behind X n (x ∷ d) = seconds_behind X n d
+seconds_after : (X : Type 0) {Y : Type 0} (n : ℕ) (d : List (ℕ × Y)) → ◌≡◌ {A = List (ℕ × X)} (firsts_in (carried_as {S = Lot X Y} Second n d)) []
+seconds_after X n [] = refl
+seconds_after X n (x ∷ d) = seconds_after X n d
 
 second_back : (X : Type 0) {Y : Type 0} (n : ℕ) (d : List (ℕ × Y)) → ◌≡◌ {A = List (ℕ × Y)} (seconds_in n (carried_as {S = Lot X Y} Second n d)) d
 second_back X n [] = refl
@@ -13,7 +13,7 @@ second_back X n (x ∷ d) = λ i. ((let e : (n + x.0) - n ≡ x.0 = omega arith 
 
 module _ {X Y : Type 0} where
   firsts_back : (n : ℕ) (c : List (ℕ × X)) (d : List (ℕ × Y)) → firsts_in (carried_both n c d) ≡ c
-  firsts_back n [] d = seconds_behind X n d
+  firsts_back n [] d = seconds_after X n d
   firsts_back n (x ∷ c) d = λ i. ((let e : 0 + x.0 ≡ x.0 = omega arith in e) i, x.1) ∷ firsts_back n c d i
 
   seconds_back : (n : ℕ) (c : List (ℕ × X)) (d : List (ℕ × Y)) → seconds_in n (carried_both n c d) ≡ d

@@ -20,18 +20,18 @@ module _ {A : Type 0} where
   -- what stands before this one, and what after it
   pub record Parted (l : List A) (i : ℕ) (x : A) : Type 0 where
     pub before : List A
-    pub behind : List A
-    pub whole : l ≡ before ++ x ∷ behind
+    pub after : List A
+    pub whole : l ≡ before ++ x ∷ after
     pub long : length before ≡ i
-    pub others : remove l i ≡ before ++ behind
+    pub others : remove l i ≡ before ++ after
 
   pub parted : (l : List A) (i : ℕ) (x : A) → slice_get l i ≡ Some x → Parted l i x
   parted [] i x e = absurd (cc)
-  parted (y ∷ l) zero x e = record { before = []; behind = l; whole = (let same : y ≡ x = cc in λ k. same k ∷ l); long = refl; others = refl }
+  parted (y ∷ l) zero x e = record { before = []; after = l; whole = (let same : y ≡ x = cc in λ k. same k ∷ l); long = refl; others = refl }
   parted (y ∷ l) (suc i) x e =
       let p = parted l i x e in record {
         before = y ∷ p.before;
-        behind = p.behind;
+        after = p.after;
         whole = ap (λ (z : List A). y ∷ z) p.whole;
         long = ap suc p.long;
         others = ap (λ (z : List A). y ∷ z) p.others;

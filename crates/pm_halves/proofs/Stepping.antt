@@ -48,10 +48,10 @@ module _ {X Y V W : Type 0} (count : ℕ → ℕ) (m : ℕ) (then : Step X → M
 
 module _ {X Y V W K : Type 0} (count : ℕ → ℕ) (m : ℕ) (then : Step X → Me X V → ℕ → Me X V → Type 0) where
   -- what a call tells, by what the step of the whole table does
-  pub first_behind : (found i a b id id' : ℕ) (t t' t'' : TableId) (k : K) (me me' : Me (Lot X Y) (V × W)) (l : Laid K) (z : Sitting X Y V W) → IsWhole count m t me → t ≡ t' → t'' ≡ t → id' ≡ id → laid m t' k ≡ l → sitting m t id me ≡ z
+  pub first_after : (found i a b id id' : ℕ) (t t' t'' : TableId) (k : K) (me me' : Me (Lot X Y) (V × W)) (l : Laid K) (z : Sitting X Y V W) → IsWhole count m t me → t ≡ t' → t'' ≡ t → id' ≡ id → laid m t' k ≡ l → sitting m t id me ≡ z
       → TellsFirst m then (step t'.slots i a b none) me found me'
       → HasStepped (told_of then l z i a b) found z (sitting m t'' id' me') × (◌≡◌ {A = Me Y W} (me'.0.1, seconds_in (t''.slots - m) me'.1) z.more) × IsWhole count m t'' me'
-  first_behind found i a b id id' t t' t'' k me me' l z whole same same' id_is l_is z_is told =
+  first_after found i a b id id' t t' t'' k me me' l z whole same same' id_is l_is z_is told =
       let h = first_told count m then i a b found t t'' me me' whole same' (subst (λ (y : TableId). TellsFirst m then (step y.slots i a b none) me found me') (sym same) told) in (
         (
           ap (lowered m) same' ∙ ap (λ (y : Sitting X Y V W). y.table) z_is,

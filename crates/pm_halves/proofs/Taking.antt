@@ -51,8 +51,8 @@ module _ {X Y V W : Type 0} (count : ℕ → ℕ) (m : ℕ) (then : Step Y → M
       )
 
 module _ {X Y : Type 0} where
-  put_behind : (n slot place : ℕ) (c : List (ℕ × X)) (d : List (ℕ × Y)) (l : List (ℕ × Lot X Y)) (y : Y) → l ≡ carried_both n c d → slot ≡ n + place → l ++ (slot, Second y) ∷ [] ≡ carried_both n c (d ++ (place, y) ∷ [])
-  put_behind n slot place c d l y e slot_is =
+  put_after : (n slot place : ℕ) (c : List (ℕ × X)) (d : List (ℕ × Y)) (l : List (ℕ × Lot X Y)) (y : Y) → l ≡ carried_both n c d → slot ≡ n + place → l ++ (slot, Second y) ∷ [] ≡ carried_both n c (d ++ (place, y) ∷ [])
+  put_after n slot place c d l y e slot_is =
       (λ i. e i ++ (slot_is i, Second y) ∷ []) ∙ (append_assoc (carried_as First 0 c) (carried_as Second n d) ((n + place, Second y) ∷ []) ∙ ap (λ (x : List (ℕ × Lot X Y)). carried_as First 0 c ++ x) (sym (carried-append Second n d ((place, y) ∷ []))))
 
 module _ {X Y V W : Type 0} (count : ℕ → ℕ) (m : ℕ) where
@@ -65,7 +65,7 @@ module _ {X Y V W : Type 0} (count : ℕ → ℕ) (m : ℕ) where
       let m3_is : m3 ≡ ((me.0.0, u), me.1 ++ (slot, Second empty) ∷ []) = e3 ∙ ap (λ (y : Me (Lot X Y) (V × W)). (y.0, turned y.1)) m2_is in
       let d : List (ℕ × Y) = seconds_in (t.slots - m) me.1 in
       let back = back_in count m t t' id id' me m3 z (d ++ (place, empty) ∷ []) whole z_is same id_is (ap (λ (y : Me (Lot X Y) (V × W)). y.0.0) m3_is)
-      (ap (λ (y : Me (Lot X Y) (V × W)). y.1) m3_is ∙ put_behind (t.slots - m) slot place (firsts_in me.1) d me.1 empty whole.1 slot_is) in
+      (ap (λ (y : Me (Lot X Y) (V × W)). y.1) m3_is ∙ put_after (t.slots - m) slot place (firsts_in me.1) d me.1 empty whole.1 slot_is) in
       (back.0, back.1 ∙ ap (λ (y : Sitting X Y V W). y.more.1 ++ (place, empty) ∷ []) z_is, back.2, ap (λ (y : Me (Lot X Y) (V × W)). y.0.1) m3_is)
 
 module _ {X Y : Type 0} where

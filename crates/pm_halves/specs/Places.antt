@@ -54,7 +54,7 @@ module _ {Y W K : Type 0} (more_holds : K → State Y W → Type 0) (m : ℕ) wh
 -- The seat has the slot of this place, and as many others as the hand says
 abbrev pub IsInHand : {X Y V W : Type 0} → Hand → Sitting X Y V W → Type 0
 IsInHand {X} {Y} {V} {W} h z =
-    (length z.me.1 ≡ h.firsts) × (length z.more.1 ≡ h.before + 1 + h.behind) × ((y : Y) × (slice_get z.more.1 h.before ≡ Some (h.place, y)))
+    (length z.me.1 ≡ h.firsts) × (length z.more.1 ≡ h.before + 1 + h.after) × ((y : Y) × (slice_get z.more.1 h.before ≡ Some (h.place, y)))
 
 module _ {Y W : Type 0} where
   -- The value was taken from the place k: its slot is the seat's, with this in it. Or nothing was, since the word met wasn't 0

@@ -16,7 +16,7 @@ pub struct Hand {
     pub place: usize,
     pub firsts: usize,
     pub before: usize,
-    pub behind: usize,
+    pub after: usize,
 }
 
 impl<
@@ -103,7 +103,7 @@ impl<
         self.table
             .shared
             .swap::<Gives<M, N, T>>(&mut seat.seat, word, 0);
-        turn_by(&mut seat.seat, hand.behind);
+        turn_by(&mut seat.seat, hand.after);
         old
     }
 }

@@ -23,6 +23,7 @@ const CONF: Conf = Conf {
     limits: Limits {
         max_connections: 1,
         max_worker_processes: 0,
+        reserved: 0,
         restart_after_crash: true,
     },
     session: SessionConf {

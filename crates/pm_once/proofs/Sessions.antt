@@ -1,8 +1,8 @@
 -- The session of a child to which nothing happens.
 use Rattle.std.{proofs.{Common.{◌≡◌, ◌≢◌, ◌⊎◌, inl, inr, ℕ, ◌≤◌, List, [], ◌∷◌, All, Option, None, Some, Ok, refl, sym, ◌∙◌, subst}, lemmas.List.Elements.{All-nil, All-cons}}, specs.Prelude.Bool}
-use Rattle.pm_server.specs.{pm_outside.Traffic.{Traffic, IsFresh}, pm_query.{Calls.newcomer, declared.book.BookEntry.BookEntry}, pm_session.{pm_session_exchange.{Exchange.{LinkView, HasFailed}, Sent.{Turn, Cancelled}, Ends.LetsGo, declared.ending.{Cause.{Cause, TheVariants.{Terminated, Cancelling, LinkEnded, LinkFailed, TimedOut, PacketRefused, MessageRefused, DecisionRefused, GateRefused, ShortOfMemory, Panicked, ToldToTerminate, ToldToQuit, Killed, Overtaken}}, Stage.{Stage, TheVariants.{Outside, Entering, Greeted}}}}, Heeding.TurnsHeed, Session.{Ending, HasAskedFor, HasCancelled, HeedsTold, ByStage, IsAttachedBehind, status_of, IsText, IsSession, IsCaused, CausedBy, HasEntered, NotesOutside, EndsAt, TurnsAway, between}}, pm_startup.declared.phase.Phase.Phase}
+use Rattle.pm_server.specs.{pm_outside.Traffic.{Traffic, IsFresh}, pm_query.{Calls.newcomer, declared.book.BookEntry.BookEntry}, pm_session.{pm_session_exchange.{Exchange.{LinkView, HasFailed}, Sent.{Turn, Cancelled}, Ends.LetsGo, declared.ending.{Cause.{Cause, TheVariants.{Terminated, Cancelling, LinkEnded, LinkFailed, TimedOut, PacketRefused, MessageRefused, DecisionRefused, GateRefused, ShortOfMemory, Panicked, ToldToTerminate, ToldToQuit, Killed, Overtaken}}, Stage.{Stage, TheVariants.{Outside, Entering, Greeted}}}}, Heeding.TurnsHeed, Session.{Ending, HasAskedFor, HasCancelled, HasCome, HeedsTold, ByStage, IsAttachedBehind, status_of, IsText, IsSession, IsCaused, CausedBy, HasEntered, NotesOutside, EndsAt, TurnsAway, between}}, pm_startup.declared.phase.Phase.Phase}
 use Rattle.pm_server.specs.pm_admit.declared.Cac.TheVariants as decisions
-use Rattle.pm_once_lives.{specs.pm_child_life.Life.{Child, Told, nothing_told, Kill, Quit, Terminate, Cancel}, proofs.QuietLaws.{its_gate, same_gate, never_refused, never_told}}
+use Rattle.pm_once_lives.{specs.pm_child_life.Life.{Child, Told, nothing_told, answer_met, Kill, Quit, Terminate, Cancel}, proofs.QuietLaws.{its_answer, same_gate, never_refused, never_told}}
 use Rattle.pm_once.specs.Service.{IsOfItself, IsServedAs}
 
 -- ---- its generation
@@ -10,10 +10,10 @@ use Rattle.pm_once.specs.Service.{IsOfItself, IsServedAs}
 abbrev IsHome : ℕ → Stage → ℕ → Type 0
 IsHome home stage generation = (stage ≡ Outside) ⊎ (generation ≡ home)
 
-at_home : (home : ℕ) (has : Bool) (told : Told) (stage : Stage) (generation : ℕ) → told.met ≡ its_gate home has → HasEntered stage generation (Some told) → IsHome home stage generation
-at_home home has told Outside generation met entered = inl refl
-at_home home has told Entering generation met entered = inr (same_gate home has generation (sym met ∙ entered))
-at_home home has told Greeted generation met entered = inr (same_gate home has generation (sym met ∙ entered))
+at_home : (home : ℕ) (came_as_ordinary : Option Bool) (told : Told) (stage : Stage) (generation : ℕ) → answer_met told ≡ its_answer home came_as_ordinary → HasEntered stage generation (Some told) → IsHome home stage generation
+at_home home came_as_ordinary told Outside generation met entered = inl refl
+at_home home came_as_ordinary told Entering generation met entered = inr (same_gate home came_as_ordinary generation (sym met ∙ entered))
+at_home home came_as_ordinary told Greeted generation met entered = inr (same_gate home came_as_ordinary generation (sym met ∙ entered))
 
 outside_notes : (stamp : Option ℕ) (pid one two : ℕ) (stage : Stage) (exit : Cause) (noted : List BookEntry) → stage ≡ Outside → NotesOutside (newcomer stamp pid one) stage exit noted → NotesOutside (newcomer stamp pid two) stage exit noted
 outside_notes stamp pid one two Outside exit noted is notes = notes
@@ -80,23 +80,23 @@ never_overtaken home pid key turns ending came_in whole noted (inl away) is =
 never_overtaken home pid key turns ending came_in whole noted (inr served) is =
     (subst (λ (cause : Cause). EndsAt (newcomer (Some home) pid home) cause served.last served.ended) is served.ends).0 refl
 
-of_itself : (home : ℕ) (has : Bool) (told : Told) (cause : Cause) (link : Option Traffic) (failed : Type 0) (limit : ℕ) (gives : ℕ → Type 0) → told.given ≡ [] → told.met ≡ its_gate home has
+of_itself : (home : ℕ) (came_as_ordinary : Option Bool) (told : Told) (cause : Cause) (link : Option Traffic) (failed : Type 0) (limit : ℕ) (gives : ℕ → Type 0) → told.given ≡ [] → answer_met told ≡ its_answer home came_as_ordinary
     → CausedBy cause decisions.Ok link failed (Some told) limit gives → (cause ≡ Overtaken → ⊥) → IsOfItself cause
-of_itself home has told Terminated link failed limit gives given met by over = tt
-of_itself home has told Cancelling link failed limit gives given met by over = tt
-of_itself home has told LinkEnded link failed limit gives given met by over = tt
-of_itself home has told LinkFailed link failed limit gives given met by over = tt
-of_itself home has told TimedOut link failed limit gives given met by over = tt
-of_itself home has told (PacketRefused fault) link failed limit gives given met by over = tt
-of_itself home has told (MessageRefused fault) link failed limit gives given met by over = tt
-of_itself home has told DecisionRefused link failed limit gives given met by over = by refl
-of_itself home has told (GateRefused refusal) link failed limit gives given met by over = never_refused home has refusal (sym met ∙ by.1)
-of_itself home has told ShortOfMemory link failed limit gives given met by over = tt
-of_itself home has told Panicked link failed limit gives given met by over = tt
-of_itself home has told ToldToTerminate link failed limit gives given met by over = never_told Terminate told given by
-of_itself home has told (ToldToQuit reason) link failed limit gives given met by over = never_told (Quit reason) told given by
-of_itself home has told Killed link failed limit gives given met by over = never_told Kill told given by
-of_itself home has told Overtaken link failed limit gives given met by over = over refl
+of_itself home came_as_ordinary told Terminated link failed limit gives given met by over = tt
+of_itself home came_as_ordinary told Cancelling link failed limit gives given met by over = tt
+of_itself home came_as_ordinary told LinkEnded link failed limit gives given met by over = tt
+of_itself home came_as_ordinary told LinkFailed link failed limit gives given met by over = tt
+of_itself home came_as_ordinary told TimedOut link failed limit gives given met by over = tt
+of_itself home came_as_ordinary told (PacketRefused fault) link failed limit gives given met by over = tt
+of_itself home came_as_ordinary told (MessageRefused fault) link failed limit gives given met by over = tt
+of_itself home came_as_ordinary told DecisionRefused link failed limit gives given met by over = by refl
+of_itself home came_as_ordinary told (GateRefused refusal) link failed limit gives given met by over = never_refused home came_as_ordinary refusal (sym met ∙ by.1)
+of_itself home came_as_ordinary told ShortOfMemory link failed limit gives given met by over = tt
+of_itself home came_as_ordinary told Panicked link failed limit gives given met by over = tt
+of_itself home came_as_ordinary told ToldToTerminate link failed limit gives given met by over = never_told Terminate told given by
+of_itself home came_as_ordinary told (ToldToQuit reason) link failed limit gives given met by over = never_told (Quit reason) told given by
+of_itself home came_as_ordinary told Killed link failed limit gives given met by over = never_told Kill told given by
+of_itself home came_as_ordinary told Overtaken link failed limit gives given met by over = over refl
 
 as_caused : (told : Told) (ending : Ending) (link : Option Traffic) (failed : Type 0) (limit : ℕ) (gives : ℕ → Type 0) → told.given ≡ []
     → CausedBy ending.exit decisions.Ok link failed (Some told) limit gives → (ending.exit ≡ ending.cause) ⊎ (ending.exit ≡ Killed) → ending.exit ≡ ending.cause
@@ -115,14 +115,14 @@ none_cancelled told none from (turn ∷ turns) to (began, over, one, rest) =
 
 -- ---- the whole
 
-pub served_alone : {S : Type 0} (notes : List BookEntry → S → S → Type 0) (before now : S) (has : Bool) (told : Told) (home pid generation key limit : ℕ) (gives : ℕ → Type 0) (ending : Ending) (turns : List Turn) (given back : LinkView)
+pub served_alone : {S : Type 0} (notes : List BookEntry → S → S → Type 0) (before now : S) (came_as_ordinary : Option Bool) (told : Told) (home pid generation key limit : ℕ) (gives : ℕ → Type 0) (ending : Ending) (turns : List Turn) (given back : LinkView)
     → HasAskedFor turns (Some nothing_told) (Some told) → HeedsTold (status_of ending) told → (child : Child) → IsAttachedBehind ending generation child.attached → HasCancelled ending.cause back.traffic (Some told)
-    → told.given ≡ [] → told.met ≡ its_gate home has → IsFresh given.traffic → back.number ≡ given.number → given.faults ≤ back.faults
+    → told.given ≡ [] → answer_met told ≡ its_answer home came_as_ordinary → IsFresh given.traffic → back.number ≡ given.number → given.faults ≤ back.faults
     → IsSession notes decisions.Ok (newcomer (Some home) pid generation) key turns ending (HasFailed given back) (between back.traffic before now)
-    → IsCaused ending turns generation decisions.Ok back.traffic (HasFailed given back) (Some told) limit gives
+    → IsCaused ending turns generation decisions.Ok back.traffic (HasFailed given back) (Some told) limit gives → HasCome back.traffic (Some told)
     → (noted : List BookEntry) × notes noted before now × IsServedAs key limit gives (record { pid = pid; generation = home; given = given; back = back; turns = turns; ending = ending; noted = noted })
-served_alone notes before now has told home pid generation key limit gives ending turns given back asked heeded child attached cancels none met fresh same later session caused =
-    let at = at_home home has told ending.stage generation met caused.gate in
+served_alone notes before now came_as_ordinary told home pid generation key limit gives ending turns given back asked heeded child attached cancels none met fresh same later session caused come =
+    let at = at_home home came_as_ordinary told ending.stage generation met caused.gate in
     let text = home_text home pid generation key turns ending session.came_in session.whole session.noted at session.text in (
       session.noted,
       session.entries,
@@ -138,6 +138,7 @@ served_alone notes before now has told home pid generation key limit gives endin
         child = child;
         attached = home_attached ending home generation child at attached;
         cancels = cancels;
+        come = come;
         caused = record {
           cause = caused.cause;
           exit = caused.exit;
@@ -148,7 +149,7 @@ served_alone notes before now has told home pid generation key limit gives endin
           slept = caused.slept;
         };
         alone = record {
-          cause = of_itself home has told ending.cause back.traffic (HasFailed given back) limit gives none met caused.cause (never_overtaken home pid key turns ending session.came_in session.whole session.noted text);
+          cause = of_itself home came_as_ordinary told ending.cause back.traffic (HasFailed given back) limit gives none met caused.cause (never_overtaken home pid key turns ending session.came_in session.whole session.noted text);
           exit = as_caused told ending back.traffic (HasFailed given back) limit gives none caused.exit ending.exits;
           uncancelled = none_cancelled told none 0 turns told.asked caused.heeded;
         };

@@ -5,7 +5,7 @@ use Rattle.pm_exit.specs.declared.child.Kind.TheVariants as kinds
 use Rattle.pm_exit.specs.declared.child.Status.{Status}
 use Rattle.pm_exit.specs.declared.child.Status.TheVariants as statuses
 use Rattle.pm_once_lives.specs.pm_child_life.Life.{Child, Told, nothing_told}
-use Rattle.pm_session.specs.{pm_outside.{Traffic.IsFresh, Visits.{Visit, Visits}, Added.Added}, pm_query.{Calls.{User, newcomer}, declared.book.BookEntry.BookEntry}, pm_session_exchange.{Exchange.{LinkView, HasFailed}, Sent.{Turn, Cancelled}, declared.ending.Cause.{Cause, TheVariants.{DecisionRefused, GateRefused, Panicked, ToldToTerminate, ToldToQuit, Killed, Overtaken}}}, Session.{Ending, HasAskedFor, HasCancelled, HeedsTold, IsAttachedBehind, IsSession, IsCaused, between, status_of}}
+use Rattle.pm_session.specs.{pm_outside.{Traffic.IsFresh, Visits.{Visit, Visits}, Added.Added}, pm_query.{Calls.{User, newcomer}, declared.book.BookEntry.BookEntry}, pm_session_exchange.{Exchange.{LinkView, HasFailed}, Sent.{Turn, Cancelled}, declared.ending.Cause.{Cause, TheVariants.{DecisionRefused, GateRefused, Panicked, ToldToTerminate, ToldToQuit, Killed, Overtaken}}}, Session.{Ending, HasAskedFor, HasCancelled, HasCome, HeedsTold, IsAttachedBehind, IsSession, IsCaused, between, status_of}}
 use Rattle.pm_supervisor_chain.specs.Steps.{ChildRun}
 
 -- One connection: its child's pid and generation, its link as it was given and as it came back, how its queries were answered,
@@ -57,6 +57,8 @@ pub record IsServedAs (key limit : ℕ) (gives : ℕ → Type 0) (connection : C
   pub child : Child
   pub attached : IsAttachedBehind connection.ending connection.generation child.attached
   pub cancels : HasCancelled connection.ending.cause connection.back.traffic (Some told)
+  -- it came to the gate as its client's user
+  pub come : HasCome connection.back.traffic (Some told)
   pub caused : IsCaused connection.ending connection.turns connection.generation decisions.Ok connection.back.traffic
       (HasFailed connection.given connection.back) (Some told) limit gives
   pub alone : IsAlone connection

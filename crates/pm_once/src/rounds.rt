@@ -35,107 +35,113 @@ impl<J: Chronicle<PmEvent>, O: Sink, D: Disk, B: Chronicle<BookEntry>> Server<J,
 
     // Lets a child run that has something to do, or serves the next link where the machine takes connections.
     fn go_on<R: Wait, P: Port, C: Clock>(
-        &mut self,
+        self,
         rt: &R,
         alloc: Global,
         port: &mut P,
         clock: &C,
         seed: &[u8; 32],
         conf: &SessionConf,
-    ) -> Result<(), ServerEnd>
-        requires running { IsRunning (view_of self.old) }
-        requires idle { IsIdle (standing self.old.supervision) }
-        requires settled { IsSettled (standing self.old.supervision) }
+    ) -> (Server<J, O, D, B>, Result<(), ServerEnd>)
+        requires running { IsRunning (view_of self) }
+        requires idle { IsIdle (standing self.supervision) }
+        requires settled { IsSettled (standing self.supervision) }
         ensures { (steps : List Step) × (connections : List Connection) × (ended : Bool)
-            × Serves (C.gives clock.now) result connections ended steps (view_of self.old)
-            (view_of self.new)
+            × Serves (C.gives clock.now) result.1 connections ended steps (view_of self)
+            (view_of result.0)
             × HasServed seed.now conf.now.authentication_ms (C.gives clock.now) connections ended
             steps (P.visits port.old) (P.visits port.new) }
     {
-        match self.run_one(rt, clock) {
-            Some(end) => end,
-            None => self.listen(rt, alloc, port, clock, seed, conf),
+        let mut server = self;
+        match server.run_one(rt, clock) {
+            Some(end) => (server, end),
+            None => server.listen(rt, alloc, port, clock, seed, conf),
         }
     }
 
     // Serves the next link, where links are asked for and the machine takes a connection.
     fn listen<R: Wait, P: Port, C: Clock>(
-        &mut self,
+        self,
         rt: &R,
         alloc: Global,
         port: &mut P,
         clock: &C,
         seed: &[u8; 32],
         conf: &SessionConf,
-    ) -> Result<(), ServerEnd>
-        requires running { IsRunning (view_of self.old) }
-        requires idle { IsIdle (standing self.old.supervision) }
-        requires settled { IsSettled (standing self.old.supervision) }
+    ) -> (Server<J, O, D, B>, Result<(), ServerEnd>)
+        requires running { IsRunning (view_of self) }
+        requires idle { IsIdle (standing self.supervision) }
+        requires settled { IsSettled (standing self.supervision) }
         ensures { (steps : List Step) × (connections : List Connection) × (ended : Bool)
-            × Serves (C.gives clock.now) result connections ended steps (view_of self.old)
-            (view_of self.new)
+            × Serves (C.gives clock.now) result.1 connections ended steps (view_of self)
+            (view_of result.0)
             × HasServed seed.now conf.now.authentication_ms (C.gives clock.now) connections ended
             steps (P.visits port.old) (P.visits port.new) }
     {
         if !self.listens || !self.supervision.may_accept() {
-            return Ok(());
+            return (self, Ok(()));
         }
         match self.supervision.decision() {
             Cac::Ok => self.serve_next(rt, alloc, port, clock, seed, conf),
-            _ => Ok(()),
+            _ => (self, Ok(())),
         }
     }
 
     // A turn of the machine, and then one thing more.
     fn round<R: Wait, P: Port, C: Clock>(
-        &mut self,
+        self,
         rt: &R,
         alloc: Global,
         port: &mut P,
         clock: &C,
         seed: &[u8; 32],
         conf: &SessionConf,
-    ) -> Result<(), ServerEnd>
-        requires running { IsRunning (view_of self.old) }
-        requires idle { IsIdle (standing self.old.supervision) }
+    ) -> (Server<J, O, D, B>, Result<(), ServerEnd>)
+        requires running { IsRunning (view_of self) }
+        requires idle { IsIdle (standing self.supervision) }
         ensures { (steps : List Step) × (connections : List Connection) × (ended : Bool)
-            × Serves (C.gives clock.now) result connections ended steps (view_of self.old)
-            (view_of self.new)
+            × Serves (C.gives clock.now) result.1 connections ended steps (view_of self)
+            (view_of result.0)
             × HasServed seed.now conf.now.authentication_ms (C.gives clock.now) connections ended
             steps (P.visits port.old) (P.visits port.new) }
     {
-        match self.turn() {
+        let mut server = self;
+        match server.turn() {
             Ok(()) => {}
-            Err(end) => return Err(end),
+            Err(end) => return (server, Err(end)),
         }
-        if self.supervision.owes_smart() {
-            return self.ask_smart(clock);
+        if server.supervision.owes_smart() {
+            let asked = server.ask_smart(clock);
+            return (server, asked);
         }
-        self.go_on(rt, alloc, port, clock, seed, conf)
+        server.go_on(rt, alloc, port, clock, seed, conf)
     }
 
     /// Does what is due, round after round, until the server ends.
     pub(crate) fn run<R: Wait, P: Port, C: Clock>(
-        &mut self,
+        self,
         rt: &R,
         alloc: Global,
         port: &mut P,
         clock: &C,
         seed: &[u8; 32],
         conf: &SessionConf,
-    ) -> ServerEnd
-        requires running { IsRunning (view_of self.old) }
-        requires idle { IsIdle (standing self.old.supervision) }
+    ) -> (Server<J, O, D, B>, ServerEnd)
+        requires running { IsRunning (view_of self) }
+        requires idle { IsIdle (standing self.supervision) }
         ensures { (steps : List Step) × (connections : List Connection) × (ended : Bool)
-            × Serves (C.gives clock.now) (Err result) connections ended steps (view_of self.old)
-            (view_of self.new)
+            × Serves (C.gives clock.now) (Err result.1) connections ended steps (view_of self)
+            (view_of result.0)
             × HasServed seed.now conf.now.authentication_ms (C.gives clock.now) connections ended
             steps (P.visits port.old) (P.visits port.new) }
     {
+        let mut server = self;
         'rounds: for _ in rt.forever() {
-            match self.round(rt, alloc, port, clock, seed, conf) {
+            let (next, went) = server.round(rt, alloc, port, clock, seed, conf);
+            server = next;
+            match went {
                 Ok(()) => {}
-                Err(end) => return end,
+                Err(end) => return (server, end),
             }
         }
         unreachable!()

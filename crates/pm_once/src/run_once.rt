@@ -1,6 +1,7 @@
 //! A whole run of the server.
 
-ghost use Rattle.std.specs.Prelude.{◌≡◌, ◌≤◌, ◌+◌, [], IfSome};
+ghost use Rattle.std.specs.Prelude.{◌≡◌, [], IfSome};
+ghost use Rattle.pm_supervisor.specs.Limits.{IsWithinLimits};
 ghost use Rattle.pm_once.specs.Once.{IsOnceRun};
 ghost use Rattle.pm_server.specs.Outside.{outside_view};
 
@@ -35,7 +36,7 @@ where
     C: Clock,
     J: Chronicle<PmEvent>,
     B: Chronicle<BookEntry>,
-    requires within { conf.now.limits.max_connections + conf.now.limits.max_worker_processes ≤ 200 }
+    requires within { IsWithinLimits conf.now.limits }
     requires empty { IfSome (J.entries outside.journal) (λ entries. entries ≡ []) }
     ensures run { IsOnceRun conf.now result.end (outside_view outside)
         (outside_view result.outside) }
@@ -72,7 +73,7 @@ where
             };
         }
     };
-    let mut server = Server {
+    let server = Server {
         supervision,
         store,
         log,
@@ -81,7 +82,7 @@ where
         outcome: None,
         listens: true,
     };
-    let end = server.run(rt, alloc, &mut port, &clock, &seed, &conf.session);
+    let (mut server, end) = server.run(rt, alloc, &mut port, &clock, &seed, &conf.session);
     server.store.keeps_its_run();
     server.store.reads_its_files();
     let Server {

@@ -312,53 +312,57 @@ impl<J: Chronicle<PmEvent>, O: Sink, D: Disk, B: Chronicle<BookEntry>> Server<J,
 
     // Serves the port's next link, and does what is due after the end of its session; or asks for a shutdown at the port's end.
     pub(crate) fn serve_next<R: Wait, P: Port, C: Clock>(
-        &mut self,
+        self,
         rt: &R,
         alloc: Global,
         port: &mut P,
         clock: &C,
         seed: &[u8; 32],
         conf: &SessionConf,
-    ) -> Result<(), ServerEnd>
-        requires running { IsRunning (view_of self.old) }
-        requires idle { IsIdle (standing self.old.supervision) }
-        requires settled { IsSettled (standing self.old.supervision) }
-        requires may { MayTake (standing self.old.supervision) }
-        requires served { decision_on (standing self.old.supervision) ≡ Cac.Ok }
-        requires listens { self.old.listens ≡ true }
+    ) -> (Server<J, O, D, B>, Result<(), ServerEnd>)
+        requires running { IsRunning (view_of self) }
+        requires idle { IsIdle (standing self.supervision) }
+        requires settled { IsSettled (standing self.supervision) }
+        requires may { MayTake (standing self.supervision) }
+        requires served { decision_on (standing self.supervision) ≡ Cac.Ok }
+        requires listens { self.listens ≡ true }
         ensures { (steps : List Step) × (connections : List Connection) × (ended : Bool)
-            × Serves (C.gives clock.now) result connections ended steps (view_of self.old)
-            (view_of self.new)
+            × Serves (C.gives clock.now) result.1 connections ended steps (view_of self)
+            (view_of result.0)
             × HasServed seed.now conf.now.authentication_ms (C.gives clock.now) connections ended
             steps (P.visits port.old) (P.visits port.new) }
     {
         laws();
-        match self.supervision.make_room() {
+        let mut server = self;
+        match server.supervision.make_room() {
             Ok(()) => {}
-            Err(_) => return Err(ServerEnd::NoMemory),
+            Err(_) => return (server, Err(ServerEnd::NoMemory)),
         }
         let Some(link) = next_link(rt, port) else {
-            return self.ask_smart(clock);
+            let asked = server.ask_smart(clock);
+            return (server, asked);
         };
-        let admitted = self.admit(clock);
-        self.outcome = None;
+        let admitted = server.admit(clock);
+        server.outcome = None;
         let means = Means { rt, alloc, clock };
-        let Served { status, link } = serve_link(
-            &means,
+        let pid = admitted.pid;
+        let Served {
+            status,
             link,
-            admitted.pid,
-            seed,
-            conf,
-            &mut self.store,
-        );
+            store,
+        } = serve_link(&means, link, pid, seed, conf, server.store);
+        server.store = store;
         port.done(link);
         match admitted.settled {
             Ok(()) => {}
-            Err(_) => return Err(ServerEnd::NoMemory),
+            Err(_) => return (server, Err(ServerEnd::NoMemory)),
         }
-        match self.note_exit(clock, session_exit(admitted.pid, status)) {
-            Ok(()) => self.finish(clock),
-            Err(_) => Err(ServerEnd::NoMemory),
+        match server.note_exit(clock, session_exit(pid, status)) {
+            Ok(()) => {
+                let finished = server.finish(clock);
+                (server, finished)
+            }
+            Err(_) => (server, Err(ServerEnd::NoMemory)),
         }
     }
 }

@@ -11,7 +11,7 @@ use pm_disk::Disk;
 use pm_exit::Status;
 use pm_once_lives::{Home, Quiet};
 use pm_outside::{Accepted, Chronicle, Clock, Link, Port};
-use pm_query::BookEntry;
+use pm_query::{BookEntry, Work};
 use pm_segment::Sole;
 use pm_session::{Admission, Done, Means, SessionConf, serve};
 use std::marker::Brand;
@@ -41,22 +41,23 @@ pub fn next_link<R: Wait, P: Port>(rt: &R, port: &mut P) -> Option<P::Link>
     unreachable!()
 }
 
-/// How a connection's child exits, and its link.
+/// How a connection's child exits, and its link and the store, given back.
 #[derive(Debug)]
-pub struct Served<L> {
+pub struct Served<L, S> {
     pub status: Status,
     pub link: L,
+    pub store: S,
 }
 
-/// Serves one link to its end, as the child with this pid, in the store's generation.
+/// Serves one link to its end, as the child with this pid, in the store's generation, and gives both back.
 pub fn serve_link<R, L, D, C, B>(
     means: &Means<'_, R, C>,
     link: L,
     pid: u32,
     seed: &[u8; 32],
     conf: &SessionConf,
-    store: &mut Sole<D, B>,
-) -> Served<L>
+    store: Sole<D, B>,
+) -> Served<L, Sole<D, B>>
 where
     R: Wait,
     L: Link,
@@ -66,13 +67,13 @@ where
     requires fresh { IsFresh (L.traffic link) }
     requires pid { 1 ≤ pid }
     ensures session { (connection : Connection) × (connection.pid ≡ pid)
-        × (connection.generation ≡ (moment store.old).generation)
+        × (connection.generation ≡ (moment store).generation)
         × (connection.given ≡ link_view (L.traffic link) (L.number link) (L.faults link))
         × (connection.back ≡ link_view (L.traffic result.link) (L.number result.link)
         (L.faults result.link)) × (result.status ≡ status_of connection.ending)
         × IsServedAs (cancel_key seed.now pid) conf.now.authentication_ms
         (C.gives means.now.clock.now) connection
-        × Moves connection.noted (moment store.old) (moment store.new) }
+        × Moves connection.noted (moment store) (moment result.store) }
 {
     serve_at_home::<Brand, R, L, D, C, B>(means, link, pid, seed, conf, store)
 }
@@ -84,8 +85,8 @@ fn serve_at_home<H, R, L, D, C, B>(
     pid: u32,
     seed: &[u8; 32],
     conf: &SessionConf,
-    store: &mut Sole<D, B>,
-) -> Served<L>
+    store: Sole<D, B>,
+) -> Served<L, Sole<D, B>>
 where
     H: Home,
     R: Wait,
@@ -95,17 +96,18 @@ where
     B: Chronicle<BookEntry>,
     requires fresh { IsFresh (L.traffic link) }
     requires pid { 1 ≤ pid }
-    requires home { (moment store.old).generation ≡ H.home }
+    requires home { (moment store).generation ≡ H.home }
     ensures session { (connection : Connection) × (connection.pid ≡ pid)
-        × (connection.generation ≡ (moment store.old).generation)
+        × (connection.generation ≡ (moment store).generation)
         × (connection.given ≡ link_view (L.traffic link) (L.number link) (L.faults link))
         × (connection.back ≡ link_view (L.traffic result.link) (L.number result.link)
         (L.faults result.link)) × (result.status ≡ status_of connection.ending)
         × IsServedAs (cancel_key seed.now pid) conf.now.authentication_ms
         (C.gives means.now.clock.now) connection
-        × Moves connection.noted (moment store.old) (moment store.new) }
+        × Moves connection.noted (moment store) (moment result.store) }
 {
     let life: Quiet<H> = Quiet::new(pid, store.generation());
+    let work = Work { life, store };
     let key = pm_keys::key(seed, pid);
     let admission = Admission {
         decision: Cac::Ok,
@@ -114,7 +116,11 @@ where
     let Done {
         status,
         link,
-        life: _,
-    } = serve(means, link, life, admission, conf, store);
-    Served { status, link }
+        work: Work { life: _, store },
+    } = serve(means, link, work, admission, conf);
+    Served {
+        status,
+        link,
+        store,
+    }
 }

@@ -1,7 +1,7 @@
 -- What a checkpointer notes that is alone and is asked for the last checkpoint, by what it remembers of that.
-use Rattle.std.{proofs.{Common.{◌≡◌, ◌⊎◌, inl, inr, ℕ, All, List, [], ◌∷◌, ◌++◌, Option, None, Some, Result, Ok, Err, refl, sym, ◌∙◌, ap, subst}, lemmas.List.Elements.All-head}, specs.Prelude.{Bool, true, false, IfSome}}
+use Rattle.std.{proofs.{Common.{◌≡◌, ◌⊎◌, inl, inr, ℕ, All, List, [], ◌∷◌, ◌++◌, Option, None, Some, Result, Ok, Err, refl, sym, ◌∙◌, ap, subst}, lemmas.List.Elements.All-head}, specs.Prelude.{Bool, true, false, option_map, IfSome}}
 use Rattle.pm_server.specs.{pm_exit.declared.child.Kind.TheVariants.Checkpointer, pm_query.{declared.{book.BookEntry.{BookEntry, TheVariants.{Attached, Detached, CheckpointEnded, Broke}}, store.{Checkpointed.{Checkpointed, TheVariants.{Done, Skipped, NotDue}}, StoreNo.StoreNo}}, Calls.{User, newcomer, CheckpointNotes}}, pm_disk.Files.Files, pm_rows.Fold.RowMap, pm_segment.{pm_store_apart.declared.live.Live.Live, Moment.Moment, Redos.{FullAtLast, IsAtLastEpoch, IsCleanAt}}}
-use Rattle.pm_once_lives.{specs.pm_child_life.{declared.life.GateNo.GateNo, Life.{Told, Kill, Quit}}, proofs.QuietLaws.{its_gate, same_gate, never_refused}}
+use Rattle.pm_once_lives.{specs.pm_child_life.{declared.life.GateNo.GateNo, Life.{Told, Kill, Quit, attempt}}, proofs.QuietLaws.{its_gate, answers_so, same_gate, never_refused}}
 use Rattle.pm_server.specs.pm_query.declared.store.StoreNo.TheVariants as stores
 use Rattle.pm_aux.specs.{declared.cause.AuxiliaryEnd.AuxiliaryEnd, Ends.fault_by, Runs.NotesBehind, Signals.IsToldTo, Work.{HasEntered, IsKeptOut, IsPassing, NotesInside}}
 use Rattle.pm_aux.specs.declared.cause.AuxiliaryEnd.TheVariants as causes
@@ -94,12 +94,12 @@ at_gate pid home causes.ToldToTerminate told noted untold to notes = notes.0
 at_gate pid home (causes.ToldToQuit reason) told noted untold to notes = never_quit reason (only_asked untold.0 told (Quit reason) untold.1 to)
 at_gate pid home causes.Killed told noted untold to notes = never_killed (only_asked untold.0 told Kill untold.1 to)
 
-pub run_closes : (pid home : ℕ) (cause : AuxiliaryEnd) (gate : Option (Result ℕ GateNo)) (has is_told : Bool) (told : Told) (noted : List BookEntry) → told.given ≡ asked_given is_told → its_gate home has ≡ gate → IsToldTo cause (Some told)
+pub run_closes : (pid home : ℕ) (cause : AuxiliaryEnd) (gate : Option (Result ℕ GateNo)) (came_as_ordinary : Option Bool) (is_told : Bool) (told : Told) (noted : List BookEntry) → told.given ≡ asked_given is_told → its_gate home came_as_ordinary ≡ option_map (attempt false) gate → IsToldTo cause (Some told)
     → NotesBehind Checkpointer (runner_of pid home) gate cause noted → ClosesSo pid home (fault_by cause) noted
-run_closes pid home cause None has is_told told noted given met to notes = absurd (at_gate pid home cause told noted (is_told, given) to notes)
-run_closes pid home cause (Some (Err refusal)) has is_told told noted given met to notes = absurd (never_refused home has refusal met)
-run_closes pid home cause (Some (Ok generation)) has is_told told noted given met to notes =
-    inside_closes pid home cause told noted (is_told, given) to (subst (λ (g : ℕ). NotesInside Checkpointer (newcomer (Some home) pid g) cause noted) (same_gate home has generation met) notes)
+run_closes pid home cause None came_as_ordinary is_told told noted given met to notes = absurd (at_gate pid home cause told noted (is_told, given) to notes)
+run_closes pid home cause (Some (Err refusal)) came_as_ordinary is_told told noted given met to notes = absurd (never_refused home came_as_ordinary refusal (answers_so home came_as_ordinary (attempt false (Err refusal)) met))
+run_closes pid home cause (Some (Ok generation)) came_as_ordinary is_told told noted given met to notes =
+    inside_closes pid home cause told noted (is_told, given) to (subst (λ (g : ℕ). NotesInside Checkpointer (newcomer (Some home) pid g) cause noted) (same_gate home came_as_ordinary generation (answers_so home came_as_ordinary (attempt false (Ok generation)) met)) notes)
 
 -- ---- no checkpoint but the last
 

@@ -1,7 +1,7 @@
 -- What a startup child notes that is alone, by what it remembers of its redo.
-use Rattle.std.{proofs.Common.{◌≡◌, ◌⊎◌, inl, inr, ℕ, List, [], ◌∷◌, ◌++◌, Option, None, Some, Result, Ok, Err, refl, sym, ◌∙◌, ap, subst}, specs.Prelude.Bool}
+use Rattle.std.{proofs.Common.{◌≡◌, ◌⊎◌, inl, inr, ℕ, List, [], ◌∷◌, ◌++◌, Option, None, Some, Result, Ok, Err, refl, sym, ◌∙◌, ap, subst}, specs.Prelude.{Bool, false, option_map}}
 use Rattle.pm_aux.specs.{pm_exit.declared.child.Kind.TheVariants.Startup, declared.cause.AuxiliaryEnd.AuxiliaryEnd, Ends.fault_by, Runs.{NotesBehind, Runner}, Signals.IsToldTo, Work.{HasEntered, IsKeptOut, NotesInside}}
-use Rattle.pm_once_lives.{specs.pm_child_life.{declared.life.GateNo.GateNo, Life.{Told, Kill, Quit, Terminate}}, proofs.QuietLaws.{its_gate, same_gate, never_refused, never_told}}
+use Rattle.pm_once_lives.{specs.pm_child_life.{declared.life.GateNo.GateNo, Life.{Told, Kill, Quit, Terminate, attempt}}, proofs.QuietLaws.{its_gate, answers_so, same_gate, never_refused, never_told}}
 use Rattle.pm_query.specs.{pm_record.declared.fault.RedoFault.RedoFault, declared.{book.BookEntry.{BookEntry, TheVariants.{Attached, Detached, Redone, Broke}}, store.StoreNo.StoreNo}, Calls.{User, newcomer, EnterNotes, RedoNotes, LeaveNotes}}
 use Rattle.pm_query.specs.pm_record.declared.fault.RedoFault.TheVariants as redo
 use Rattle.pm_query.specs.declared.store.StoreNo.TheVariants as stores
@@ -92,12 +92,12 @@ at_gate pid home causes.ToldToTerminate told noted none to notes = never_told Te
 at_gate pid home (causes.ToldToQuit reason) told noted none to notes = never_told (Quit reason) told none to
 at_gate pid home causes.Killed told noted none to notes = never_told Kill told none to
 
-pub run_reads : (pid home : ℕ) (cause : AuxiliaryEnd) (gate : Option (Result ℕ GateNo)) (has : Bool) (told : Told) (noted : List BookEntry) → told.given ≡ [] → its_gate home has ≡ gate → IsToldTo cause (Some told)
+pub run_reads : (pid home : ℕ) (cause : AuxiliaryEnd) (gate : Option (Result ℕ GateNo)) (came_as_ordinary : Option Bool) (told : Told) (noted : List BookEntry) → told.given ≡ [] → its_gate home came_as_ordinary ≡ option_map (attempt false) gate → IsToldTo cause (Some told)
     → NotesBehind Startup (runner_of pid home) gate cause noted → ReadsSo pid home (fault_by cause) noted
-run_reads pid home cause None has told noted none met to notes = absurd (at_gate pid home cause told noted none to notes)
-run_reads pid home cause (Some (Err refusal)) has told noted none met to notes = absurd (never_refused home has refusal met)
-run_reads pid home cause (Some (Ok generation)) has told noted none met to notes =
-    inside_reads pid home cause noted (subst (λ (g : ℕ). NotesInside Startup (newcomer (Some home) pid g) cause noted) (same_gate home has generation met) notes)
+run_reads pid home cause None came_as_ordinary told noted none met to notes = absurd (at_gate pid home cause told noted none to notes)
+run_reads pid home cause (Some (Err refusal)) came_as_ordinary told noted none met to notes = absurd (never_refused home came_as_ordinary refusal (answers_so home came_as_ordinary (attempt false (Err refusal)) met))
+run_reads pid home cause (Some (Ok generation)) came_as_ordinary told noted none met to notes =
+    inside_reads pid home cause noted (subst (λ (g : ℕ). NotesInside Startup (newcomer (Some home) pid g) cause noted) (same_gate home came_as_ordinary generation (answers_so home came_as_ordinary (attempt false (Ok generation)) met)) notes)
 
 -- ---- by what it remembers
 

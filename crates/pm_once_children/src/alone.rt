@@ -1,9 +1,10 @@
-//! A store as one of its children has it that is alone with it: the startup child, or the checkpointer at a shutdown.
+//! A store and a life as a child has them that is alone with the store: the startup child, or the checkpointer at a shutdown.
 
-ghost use Rattle.std.{specs.Prelude.{◌≡◌, Some}, proofs.Common.{◌∙◌, refl}};
+ghost use Rattle.std.{specs.Prelude.{◌≡◌, [], Some}, proofs.Common.{◌∙◌, ap, refl, subst, sym}};
 ghost use Rattle.pm_segment.specs.{Moment.moment, Passes.{Admits, view_of}};
 ghost use Rattle.pm_once_children.specs.{Alone.{Does, made_by, redone_by}, AloneLaws.{does_nothing, does_on, meets, stays_in}};
 
+use pm_child_life::{Cancelled, GateNo, Life, Seat, Signals};
 use pm_disk::Disk;
 use pm_outside::Chronicle;
 use pm_query::{BookEntry, Checkpointed, Seen, Staged, Store, StoreNo};
@@ -48,15 +49,50 @@ impl Work {
     }
 }
 
-/// The store for one child alone, which remembers what the child's work came to. A second time that isn't done, and whatever else
-/// is asked is refused as for want of memory, with nothing noted. A checkpoint that isn't the last is never due.
+/// A child's life, and the store for it alone, which remembers what the child's work came to. A second time that isn't done, and
+/// whatever else is asked is refused as for want of memory, with nothing noted. A checkpoint that isn't the last is never due.
 #[derive(Drop)]
-pub struct Alone<'a, D: Disk, B: Chronicle<BookEntry>> {
+pub struct Alone<'a, F, D: Disk, B: Chronicle<BookEntry>> {
+    pub life: F,
     pub store: &'a mut Sole<D, B>,
     pub work: Work,
 }
 
-impl<'a, D: Disk, B: Chronicle<BookEntry>> Store for Alone<'a, D, B> {
+impl<'a, F: Life, D: Disk, B: Chronicle<BookEntry>> Seat for Alone<'a, F, D, B> {
+    ghost child = { λ alone. F.child alone.life };
+
+    ghost told = { λ alone. F.told alone.life };
+
+    ghost rests = { λ before now. (now.store ≡ before.store) × (now.work ≡ before.work) };
+}
+
+impl<'a, F: Life, D: Disk, B: Chronicle<BookEntry>> Life for Alone<'a, F, D, B> {
+    fn pid(&self) -> u32 {
+        self.life.pid()
+    }
+
+    fn signals(&mut self) -> Signals {
+        self.life.signals()
+    }
+
+    fn attach(&mut self, is_ordinary: bool) -> Result<u32, GateNo> {
+        self.life.attach(is_ordinary)
+    }
+
+    fn detach(&mut self) {
+        self.life.detach();
+    }
+
+    fn cancel(&mut self, pid: u32, key: u32) -> Cancelled {
+        self.life.cancel(pid, key)
+    }
+
+    ghost stands_still = { λ alone. (refl, refl) };
+
+    ghost rests_on = { λ before between now one two. (two.0 ∙ one.0, two.1 ∙ one.1) };
+}
+
+impl<'a, F: Life, D: Disk, B: Chronicle<BookEntry>> Store for Alone<'a, F, D, B> {
     type Pass = Pass;
 
     ghost notes = { λ entries before now. (now.store.ghost_name ≡ before.store.ghost_name)
@@ -114,6 +150,17 @@ impl<'a, D: Disk, B: Chronicle<BookEntry>> Store for Alone<'a, D, B> {
     }
 
     ghost at_rest = { λ alone. (refl, does_nothing alone.work (moment alone.store.now)) };
+
+    ghost apart = { λ before now same. (
+      ap (λ store. store.ghost_name) same.0,
+      subst (λ work. Does [] before.work work (moment before.store.now) (moment now.store.now)) (sym same.1)
+          (subst (λ store. Does [] before.work before.work (moment before.store.now) (moment store.now)) (sym same.0)
+          (does_nothing before.work (moment before.store.now))),
+    ) };
+
+    ghost admits_still = { λ before now pass same admits. subst (λ store. Admits pass (moment store.now)) (sym same.0) admits };
+
+    ghost met_still = { λ before now same. ap (λ store. (moment store.now).generation) same.0 };
 
     ghost in_turn = { λ before between now first second one two. (
       two.0 ∙ one.0,

@@ -81,12 +81,13 @@ fn close_at_home<H: Home, R: Wait, D: Disk, B: Chronicle<BookEntry>, C: Clock>(
     ensures full { FullAtLast (moment store.new).files result }
     ensures afresh { MadeAfresh true (moment store.new) result }
 {
-    let mut life: Asked<H> = Asked::new(pid, store.generation());
+    let life: Asked<H> = Asked::new(pid, store.generation());
     let mut alone = Alone {
+        life,
         store,
         work: Work::ToClose,
     };
-    let done = checkpointer(rt, &mut alone, clock, &mut life);
+    let done = checkpointer(rt, &mut alone, clock);
     alone.work.made(done.fault)
 }
 

@@ -50,12 +50,13 @@ fn redo_at_home<H: Home, D: Disk, B: Chronicle<BookEntry>>(
     ensures kept { LeavesFiles (moment store.old).files (moment store.new).files result }
     ensures unread { LeavesUnread (moment store.new).live result }
 {
-    let mut life: Quiet<H> = Quiet::new(pid, store.generation());
+    let life: Quiet<H> = Quiet::new(pid, store.generation());
     let mut alone = Alone {
+        life,
         store,
         work: Work::ToRead,
     };
-    let done = startup(&mut alone, &mut life);
+    let done = startup(&mut alone);
     alone.work.redone(done.fault)
 }
 

@@ -13,7 +13,8 @@ pub struct Asked<H: Home> {
     // How often it has asked for its signals, and whether it has.
     pub(crate) asked: u64,
     pub(crate) is_told: bool,
-    pub(crate) has_met: bool,
+    // Whether it came to the gate as an ordinary child, if it was there.
+    pub(crate) came_as_ordinary: Option<bool>,
     pub(crate) asked_cancel: Option<(u32, u32)>,
     pub(crate) of: PhantomData<H>,
     ghost at_home: { generation ≡ H.home },

@@ -4,7 +4,7 @@ ghost use Rattle.std.specs.Prelude.{◌≡◌};
 
 use crate::asked::Asked;
 use crate::quiet::Home;
-use pm_child_life::{Cancelled, GateNo, Life, Signals};
+use pm_child_life::{Cancelled, GateNo, Life, Seat, Signals};
 use std::marker::PhantomData;
 
 impl<H: Home> Asked<H> {
@@ -25,21 +25,26 @@ impl<H: Home> Asked<H> {
             attached: None,
             asked: 0,
             is_told: false,
-            has_met: false,
+            came_as_ordinary: None,
             asked_cancel: None,
             of: PhantomData,
         }
     }
 }
 
-impl<H: Home> Life for Asked<H> {
+impl<H: Home> Seat for Asked<H> {
     ghost use Rattle.std.specs.Prelude.{Some};
+    ghost use Rattle.pm_child_life.specs.Life.{HasNoStore};
     ghost use Rattle.pm_once_lives.specs.Asked.{asked_child, asked_told};
 
     ghost child = { asked_child };
 
     ghost told = { λ life. Some (asked_told life) };
 
+    ghost rests = { HasNoStore };
+}
+
+impl<H: Home> Life for Asked<H> {
     fn pid(&self) -> u32 {
         self.pid
     }
@@ -57,9 +62,9 @@ impl<H: Home> Life for Asked<H> {
         }
     }
 
-    fn attach(&mut self) -> Result<u32, GateNo> {
+    fn attach(&mut self, is_ordinary: bool) -> Result<u32, GateNo> {
         self.attached = Some(self.generation);
-        self.has_met = true;
+        self.came_as_ordinary = Some(is_ordinary);
         Ok(self.generation)
     }
 
@@ -71,4 +76,8 @@ impl<H: Home> Life for Asked<H> {
         self.asked_cancel = Some((pid, key));
         Cancelled::NoSuchPid
     }
+
+    ghost stands_still = { λ life. tt };
+
+    ghost rests_on = { λ before between now one two. tt };
 }

@@ -22,7 +22,8 @@ pub struct Quiet<H: Home> {
     pub(crate) generation: u32,
     pub(crate) attached: Option<u32>,
     pub(crate) asked: u64,
-    pub(crate) has_met: bool,
+    // Whether it came to the gate as an ordinary child, if it was there.
+    pub(crate) came_as_ordinary: Option<bool>,
     pub(crate) asked_cancel: Option<(u32, u32)>,
     pub(crate) of: PhantomData<H>,
     ghost at_home: { generation ≡ H.home },

@@ -3,7 +3,7 @@
 ghost use Rattle.std.specs.Prelude.{◌≡◌};
 
 use crate::quiet::{Home, Quiet};
-use pm_child_life::{Cancelled, GateNo, Life, Signals};
+use pm_child_life::{Cancelled, GateNo, Life, Seat, Signals};
 use std::marker::PhantomData;
 
 impl<H: Home> Quiet<H> {
@@ -23,21 +23,26 @@ impl<H: Home> Quiet<H> {
             generation,
             attached: None,
             asked: 0,
-            has_met: false,
+            came_as_ordinary: None,
             asked_cancel: None,
             of: PhantomData,
         }
     }
 }
 
-impl<H: Home> Life for Quiet<H> {
+impl<H: Home> Seat for Quiet<H> {
     ghost use Rattle.std.specs.Prelude.{Some};
+    ghost use Rattle.pm_child_life.specs.Life.{HasNoStore};
     ghost use Rattle.pm_once_lives.specs.Quiet.{quiet_child, quiet_told};
 
     ghost child = { quiet_child };
 
     ghost told = { λ life. Some (quiet_told life) };
 
+    ghost rests = { HasNoStore };
+}
+
+impl<H: Home> Life for Quiet<H> {
     fn pid(&self) -> u32 {
         self.pid
     }
@@ -53,9 +58,9 @@ impl<H: Home> Life for Quiet<H> {
         }
     }
 
-    fn attach(&mut self) -> Result<u32, GateNo> {
+    fn attach(&mut self, is_ordinary: bool) -> Result<u32, GateNo> {
         self.attached = Some(self.generation);
-        self.has_met = true;
+        self.came_as_ordinary = Some(is_ordinary);
         Ok(self.generation)
     }
 
@@ -67,4 +72,8 @@ impl<H: Home> Life for Quiet<H> {
         self.asked_cancel = Some((pid, key));
         Cancelled::NoSuchPid
     }
+
+    ghost stands_still = { λ life. tt };
+
+    ghost rests_on = { λ before between now one two. tt };
 }

@@ -1,6 +1,7 @@
 //! A whole run of the server, with what a user counts on.
 
-ghost use Rattle.std.specs.Prelude.{◌≡◌, ◌≤◌, ◌+◌, [], IfSome};
+ghost use Rattle.std.specs.Prelude.{◌≡◌, [], IfSome};
+ghost use Rattle.pm_state.specs.pm_supervisor.Limits.{IsWithinLimits};
 ghost use Rattle.pm_server.specs.Outside.{outside_view};
 ghost use Rattle.pm_once_promises.specs.PromisedOnce.{IsPromisedOnce};
 
@@ -30,7 +31,7 @@ where
     C: Clock,
     J: Chronicle<PmEvent>,
     B: Chronicle<BookEntry>,
-    requires within { conf.now.limits.max_connections + conf.now.limits.max_worker_processes ≤ 200 }
+    requires within { IsWithinLimits conf.now.limits }
     requires empty { IfSome (J.entries outside.journal) (λ entries. entries ≡ []) }
     ensures run { IsPromisedOnce conf.now result.end (outside_view outside)
         (outside_view result.outside) }

@@ -19,7 +19,7 @@ pub trait Clock {
     /// Lets some time pass. It may end at once where there was a ring or a call since the pause before.
     fn pause(&self);
 
-    /// Lets about a millisecond pass, however long a pause is, so that others get what the caller has let go of.
+    /// Lets a short time pass, no longer than a pause, so that others get what the caller has let go of.
     fn pause_briefly(&self) {
         self.pause()
     }

@@ -1,11 +1,11 @@
 -- A server begins.
 use Rattle.std.{proofs.{Common.{◌≡◌, inl, ℕ, zero, suc, ◌+◌, ◌≤◌, List, [], ◌∷◌, refl, sym, ap, subst, ◌∙◌, length, arith, get_or, replicate}, lemmas.List.length-replicate}, specs.{Prelude.{true, false, Option, None, Some, IfSome, is_some}, List.{Contains, flat_map}}}
-use Rattle.pm_board_acts.specs.{pm_board.{declared.views.{PastChild.PastChild, RosterView.RosterView, Sight.TheVariants.Unused, SlotView.SlotView}, Children.{children_of, count_of}, Places.{is_connection, slot_at, slot_view}, Told.new_roster}, pm_supervisor_journal.{Standing.{Standing, nothing_done}, Stands.AtWork, Due.is_last_drawn}, Standing.{IsAt, IsUnbegun, view}, pm_state.declared.event.PmEvent.PmEvent}
-use Rattle.pm_serve_pool.specs.{pm_serve_crew.Redos.redo_told, pm_store_shared.{declared.views.Noted.Noted, Log.noted}}
+use Rattle.pm_board_acts.specs.{pm_board.{declared.views.{SessionLimit.SessionLimit, PastChild.PastChild, RosterView.RosterView, Sight.TheVariants.Unused, SlotView.SlotView}, Children.{children_of, count_of}, Places.{is_connection, slot_at, slot_view}, Told.new_roster}, pm_supervisor_journal.{Standing.{Standing, nothing_done}, Stands.AtWork, Due.is_last_drawn}, Standing.{IsAt, IsUnbegun, view}, pm_state.declared.event.PmEvent.PmEvent}
+use Rattle.pm_serve_pool.specs.{Plan.sessions_of, pm_serve_crew.Redos.redo_told, pm_store_shared.{declared.views.Noted.Noted, Log.noted}}
 use Rattle.pm_server_lines.{specs.Log.HasSaid, proofs.LogLaws.said_first}
 use Rattle.pm_worker.specs.{pm_outside.Visits.{Visits, no_visits}, pm_query.declared.book.BookEntry.TheVariants.Opened, declared.mail.MailTold.MailTold}
 use Rattle.pm_postmaster.specs.{Served.slots_by, Links.{AcceptedConnection, HasLinks}, Looking.came_of, Requests.{MayOwe, ended_in}, Serving.{IsServing, KillsAll, Outset, Renews, RemembersLast}, View.View, declared.came.LastCame.LastCame}
-use Rattle.pm_supervisor.{specs.{declared.Limits.Limits, Children.{one_if, is_checkpointer, is_startup_child}}, proofs.CountLaws.at_most_one}
+use Rattle.pm_supervisor.{specs.{declared.Limits.Limits, Limits.IsWithinLimits, Children.{one_if, is_checkpointer, is_startup_child}}, proofs.CountLaws.at_most_one}
 
 abbrev no_slot : SlotView MailTold
 no_slot = slot_view [] Unused
@@ -24,7 +24,7 @@ new_slot zero k = refl
 new_slot (suc n) zero = refl
 new_slot (suc n) (suc k) = new_slot n k
 
-module _ (count limit posts : ℕ) where
+module _ (count : ℕ) (limit : SessionLimit) (posts : ℕ) where
   abbrev new_board : RosterView MailTold
   new_board = new_roster count limit posts
 
@@ -61,8 +61,8 @@ outset_of limits count v = record {
 }
 
 module _ {D C : Type 0} (gives : C → ℕ → Type 0) where
-  begins : (outset : Outset D C) (v : View D C) (limit posts : ℕ) → IsAt outset.limits outset.count [] (view v.work v.board)
-      → v.work.standing ≡ nothing_done outset.limits → v.board ≡ new_roster outset.count limit posts → limit ≡ outset.limits.max_connections
+  begins : (outset : Outset D C) (v : View D C) (limit : SessionLimit) (posts : ℕ) → IsAt outset.limits outset.count [] (view v.work v.board)
+      → v.work.standing ≡ nothing_done outset.limits → v.board ≡ new_roster outset.count limit posts → limit ≡ sessions_of outset.limits
       → v.table ≡ outset.table → v.shared ≡ outset.shared → v.clock ≡ outset.clock → v.log ≡ outset.log → outset.log.is_cut ≡ false
       → is_some v.work.told ≡ outset.tells → IfSome v.visits (λ visits. visits ≡ no_visits)
       → v.shared.generation ≡ 1 → v.shared.own ≡ noted 0 (Opened 1) ∷ [] → v.lost ≡ [] → v.came ≡ nobody_came → IfSome v.lines (λ lines. lines ≡ []) → IsServing gives outset v
@@ -114,8 +114,8 @@ module _ {D C : Type 0} (gives : C → ℕ → Type 0) where
 
   -- a new server serves
   pub begun : (limits : Limits) (v : View D C) (work : AtWork) (board : RosterView MailTold)
-      → 1 ≤ limits.max_connections + limits.max_worker_processes → limits.max_connections + limits.max_worker_processes ≤ 200
-      → work.standing ≡ nothing_done limits → (told : Option (List PmEvent)) → work.told ≡ told → IfSome told (λ entries. entries ≡ []) → board ≡ new_roster (slots_by limits) limits.max_connections (slots_by limits)
+      → 1 ≤ limits.max_connections + limits.max_worker_processes → IsWithinLimits limits
+      → work.standing ≡ nothing_done limits → (told : Option (List PmEvent)) → work.told ≡ told → IfSome told (λ entries. entries ≡ []) → board ≡ new_roster (slots_by limits) (sessions_of limits) (slots_by limits)
       → v.work ≡ work → v.board ≡ board → ((count : ℕ) → IsUnbegun limits count (view work board) → IsAt limits count [] (view v.work v.board))
       → v.log.is_cut ≡ false → IfSome v.visits (λ visits. visits ≡ no_visits) → v.shared.generation ≡ 1 → v.shared.own ≡ noted 0 (Opened 1) ∷ [] → v.lost ≡ [] → v.came ≡ nobody_came
       → IfSome v.lines (λ lines. lines ≡ []) → IsServing gives (outset_of limits (slots_by limits) v) v
@@ -124,11 +124,11 @@ module _ {D C : Type 0} (gives : C → ℕ → Type 0) where
       let at = stands slots (record {
         standing = standing;
         told = subst (λ (t : Option (List PmEvent)). IfSome t (λ entries. entries ≡ [])) (sym tells) empty;
-        session_limit = limits.max_connections;
+        session_limit = sessions_of limits;
         posts = slots;
         board = new;
         many = omega (arith, some);
-        few = omega (arith, within);
+        few = (let most = within.few in omega (arith, most));
       }) in
-      begins (outset_of limits slots v) v limits.max_connections slots at (ap (λ (w : AtWork). w.standing) same_work ∙ standing) (same_board ∙ new) refl refl refl refl refl uncut refl
+      begins (outset_of limits slots v) v (sessions_of limits) slots at (ap (λ (w : AtWork). w.standing) same_work ∙ standing) (same_board ∙ new) refl refl refl refl refl uncut refl
       visits generation own lost came lines

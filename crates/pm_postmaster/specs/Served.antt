@@ -1,7 +1,7 @@
 -- What a run of a server of many connections leaves.
 use Rattle.std.specs.Prelude.{◌≡◌, ◌⊎◌, ◌+◌, ◌*◌, ℕ, List, [], ◌∷◌, ◌++◌, Option, None, Some, IfSome, is_some, ◌≢◌}
 use Rattle.pm_board_acts.specs.{pm_board.declared.views.RosterView.RosterView, Chained.LinksCameBack, Seating.{Move, journal_of}, Standing.IsBoardOf, pm_worker.declared.mail.MailTold.MailTold, pm_supervisor_chain.Chain.{opened_of, resets_of}}
-use Rattle.pm_serve_pool.specs.{pm_serve_crew.{Left.{AreLeft, Manner}, Pids.AreUsedOnce, Redos.RedosAreThose, Renewals.RenewsAsTold}, declared.pool.NoPool.NoPool}
+use Rattle.pm_serve_pool.specs.{pm_serve_crew.{Left.{AreLeft, Manner}, Pids.AreUsedOnce, Redos.RedosAreThose, Renewals.RenewsAsTold}, declared.pool.NoPool.NoPool, Plan.sessions_of}
 use Rattle.pm_server.specs.{pm_disk.Cause.Rose, pm_server_lines.Log.{HasLogged, LogView, Says, log_of}, pm_record.OnDisk.GoesOn, pm_query.declared.book.BookEntry.{BookEntry, TheVariants.Opened}, declared.{conf.Conf.Conf, end.ServerEnd.{ServerEnd, TheVariants.{NoThread, NoMemory}}}, Ends.end_line, Journal.IsJournal, pm_supervisor.declared.Limits.Limits}
 use Rattle.pm_serve_pool.specs.declared.pool.NoPool.TheVariants as pools
 use Rattle.pm_store_remains.specs.{Remains.Remains, pm_store_shared.{declared.views.Noted.Noted, Log.entries_of}}
@@ -36,8 +36,8 @@ pub record IsServed (conf : Conf) (end : ServerEnd) (board : RosterView MailTold
   pub own : List Noted
   pub book : List BookEntry
   pub journal : IsJournal conf.limits before.outside.gives (journal_of (slots_by conf.limits) moves) before.outside.journal now.outside.journal
-  -- so many sessions it lets in at one time
-  pub limit : board.session_limit ≡ conf.limits.max_connections
+  -- so many sessions it lets in at one time, and so many of these places are kept from ordinary ones
+  pub limit : board.session_limit ≡ sessions_of conf.limits
   -- the steps at the board are those of the moves
   pub board_is : IsBoardOf (slots_by conf.limits) moves board
   -- each worker's runs, one for one, are the children of its slot, and the book is what they and the supervisor noted

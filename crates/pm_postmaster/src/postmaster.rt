@@ -1,5 +1,6 @@
 //! A whole run of a server.
 ghost use Rattle.std.specs.Prelude.{◌≡◌, ◌≤◌, ◌+◌, ◌*◌, [], IfSome, option_map};
+ghost use Rattle.pm_supervisor.specs.Limits.{IsWithinLimits};
 ghost use Rattle.pm_server.specs.{pm_outside.Visits.no_visits, pm_server_lines.Log.view_of, Ends.end_line};
 ghost use Rattle.pm_postmaster.specs.{Outside.serve_view, Served.{IsEnded, IsServeRun, unmade_by}};
 
@@ -101,7 +102,7 @@ where
     J: Chronicle<PmEvent>,
     B: Chronicle<BookEntry> + Drop + Send + 'static,
     requires some { 1 ≤ conf.now.limits.max_connections + conf.now.limits.max_worker_processes }
-    requires within { conf.now.limits.max_connections + conf.now.limits.max_worker_processes ≤ 200 }
+    requires within { IsWithinLimits conf.now.limits }
     requires journal { IfSome (J.entries outside.journal) (λ entries. entries ≡ []) }
     requires book { IfSome (B.entries outside.book) (λ entries. entries ≡ []) }
     requires port { IfSome (P.visits outside.port) (λ visits. visits ≡ no_visits) }
@@ -114,8 +115,7 @@ where
 {
     laws::<L>();
     let plan = Plan {
-        max_connections: conf.limits.max_connections,
-        max_worker_processes: conf.limits.max_worker_processes,
+        limits: conf.limits,
         conf: conf.session,
         seed: outside.seed,
     };

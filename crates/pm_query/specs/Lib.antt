@@ -18,3 +18,4 @@ pub use Rattle.pm_rows.specs as pm_rows
 pub use Rattle.pm_disk.specs as pm_disk
 pub use Rattle.pm_sql.specs as pm_sql
 pub use Rattle.pm_record.specs as pm_record
+pub use Rattle.pm_child_life.specs as pm_child_life

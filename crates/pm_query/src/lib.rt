@@ -17,6 +17,7 @@ mod pairs;
 mod reply;
 mod run;
 mod store;
+mod work;
 
 pub use book::BookEntry;
 pub use item::Item;
@@ -30,3 +31,4 @@ pub use pm_record::RedoFault;
 pub use reply::Reply;
 pub use run::{Outcome, answer};
 pub use store::{CHECKPOINT_BYTES, Checkpointed, Seen, Staged, Stepping, Store, StoreNo};
+pub use work::Work;

@@ -1,9 +1,10 @@
 //! What a child asks of the store.
 ghost use Rattle.std.specs.Prelude.{◌≡◌, ◌≤◌, ◌⊎◌, ◌++◌, ◌∷◌, [], ℕ, List, Option, All, IfOk, OnErr};
-ghost use Rattle.pm_query.specs.{declared.{book.BookEntry.{BookEntry, TheVariants.Detached}, store.StoreNo.TheVariants.{Disk, NoMemory}}, Calls.{DiskFact, LearnsFront, LearnsReason, PassView, user_of, newcomer, new_pass, with_front, ReachesNoLess, HasReached, IsPast, MetAnother, MetLater, EnterNotes, RunNotes, SeenNotes, FlushNotes, RedoNotes, CheckpointNotes, step_of, StepNotes, LeaveNotes}, Limits.HasShortValues};
+ghost use Rattle.pm_query.specs.{declared.{book.BookEntry.{BookEntry, TheVariants.Detached}, store.StoreNo.TheVariants.{Disk, NoMemory}}, Calls.{DiskFact, LearnsFront, LearnsReason, PassView, user_of, newcomer, new_pass, with_front, ReachesNoLess, HasReached, IsPast, MetAnother, MetLater, EnterNotes, RunNotes, SeenNotes, FlushNotes, RedoNotes, CheckpointNotes, step_of, StepNotes, LeaveNotes}, Limits.HasShortValues, pm_child_life.Life.IsUntouched};
 
 use crate::book::BookEntry;
 use crate::reply::Reply;
+use pm_child_life::Seat;
 use pm_disk::DiskFault;
 use pm_record::RedoFault;
 use pm_sql::Script;
@@ -111,7 +112,7 @@ impl Stepping {
 ///
 /// After a fault of the disk a store stands broken, and its calls still may be made: those that would write, and `seen`
 /// above what is flushed, answer `Broken` and note the same fault again, until the log is read again.
-pub trait Store {
+pub trait Store: Seat {
     /// The leave of one child to use the store, from `enter` to `leave`.
     type Pass: Drop;
 
@@ -140,7 +141,9 @@ pub trait Store {
             × EnterNotes (newcomer (stamp self.old) pid generation) result entries }
         ensures admits { IfOk result (λ pass. admits self.new pass) }
         ensures view { IfOk result (λ pass. view pass ≡ new_pass pid generation) }
-        ensures stale { MetAnother (met self.new) generation result };
+        ensures stale { MetAnother (met self.new) generation result }
+        ensures life { IsUntouched (Self.child self.old) (Self.child self.new) (Self.told self.old)
+            (Self.told self.new) };
 
     /// Runs a script, and stages its commit where it has changes. All memory is taken before that.
     fn run(&mut self, pass: &mut Self::Pass, script: &Script) -> Result<Staged, StoreNo>
@@ -153,7 +156,9 @@ pub trait Store {
             (view pass.old)) }
         ensures refused { OnErr result (view pass.new ≡ view pass.old) }
         ensures short { IfOk result (λ staged. All HasShortValues staged.reply) }
-        ensures stale { MetLater (met self.new) (view pass.old).generation result };
+        ensures stale { MetLater (met self.new) (view pass.old).generation result }
+        ensures life { IsUntouched (Self.child self.old) (Self.child self.new) (Self.told self.old)
+            (Self.told self.new) };
 
     /// Whether the log is flushed up to a front that the pass has reached. Then the answers up to it may be sent, also
     /// where the log is broken.
@@ -164,7 +169,9 @@ pub trait Store {
             × SeenNotes (user_of (stamp self.old) (view pass.old)) front result entries }
         ensures admits { admits self.new pass.new }
         ensures view { view pass.new ≡ view pass.old }
-        ensures stale { MetLater (met self.new) (view pass.old).generation result };
+        ensures stale { MetLater (met self.new) (view pass.old).generation result }
+        ensures life { IsUntouched (Self.child self.old) (Self.child self.new) (Self.told self.old)
+            (Self.told self.new) };
 
     /// Writes at most one batch of the staged commits, and answers up to where the log is flushed. With none staged no
     /// device call is made.
@@ -175,7 +182,9 @@ pub trait Store {
         ensures admits { admits self.new pass.new }
         ensures view { view pass.new ≡ view pass.old }
         ensures stale { MetLater (met self.new) (view pass.old).generation result }
-        ensures learned { LearnsFront (learned self.new) result };
+        ensures learned { LearnsFront (learned self.new) result }
+        ensures life { IsUntouched (Self.child self.old) (Self.child self.new) (Self.told self.old)
+            (Self.told self.new) };
 
     /// Reads the log, and answers how many commits stand. Where it was read in this generation already, it answers that
     /// number again.
@@ -186,7 +195,9 @@ pub trait Store {
         ensures admits { admits self.new pass.new }
         ensures view { view pass.new ≡ view pass.old }
         ensures stale { MetLater (met self.new) (view pass.old).generation result }
-        ensures learned { LearnsReason (learned self.new) result };
+        ensures learned { LearnsReason (learned self.new) result }
+        ensures life { IsUntouched (Self.child self.old) (Self.child self.new) (Self.told self.old)
+            (Self.told self.new) };
 
     /// Writes all rows as the base of the log's other file, where redo has ended in this generation. A clean one is the
     /// last: no changes are committed after it. Any other is made once so many bytes of batches stand after the base
@@ -197,7 +208,9 @@ pub trait Store {
             × CheckpointNotes (user_of (stamp self.old) (view pass.old)) clean result entries }
         ensures admits { admits self.new pass.new }
         ensures view { view pass.new ≡ view pass.old }
-        ensures stale { MetLater (met self.new) (view pass.old).generation result };
+        ensures stale { MetLater (met self.new) (view pass.old).generation result }
+        ensures life { IsUntouched (Self.child self.old) (Self.child self.new) (Self.told self.old)
+            (Self.told self.new) };
 
     /// One step of a checkpoint that isn't the last: it begins one where one is due, or goes on with the one that is under
     /// way. A store whose checkpoint is one call makes it all in one step.
@@ -208,6 +221,8 @@ pub trait Store {
         ensures admits { admits self.new pass.new }
         ensures view { view pass.new ≡ view pass.old }
         ensures stale { MetLater (met self.new) (view pass.old).generation result }
+        ensures life { IsUntouched (Self.child self.old) (Self.child self.new) (Self.told self.old)
+            (Self.told self.new) }
     {
         Ok(Stepping::of(self.checkpoint(pass, false)?))
     }
@@ -218,6 +233,8 @@ pub trait Store {
         ensures notes { notes [] self.old self.new }
         ensures admits { admits self.new pass.new }
         ensures view { view pass.new ≡ view pass.old }
+        ensures life { IsUntouched (Self.child self.old) (Self.child self.new) (Self.told self.old)
+            (Self.told self.new) }
     {}
 
     /// Lets a child go, and notes that, unless the store has met a later generation. It takes no memory.
@@ -226,10 +243,20 @@ pub trait Store {
         ensures notes { (entries : List BookEntry) × notes entries self.old self.new
             × LeaveNotes (user_of (stamp self.old) (view pass)) entries }
         ensures stale { notes (Detached (view pass).pid ∷ []) self.old self.new
-            ⊎ IsPast (met self.new) (view pass).generation };
+            ⊎ IsPast (met self.new) (view pass).generation }
+        ensures life { IsUntouched (Self.child self.old) (Self.child self.new) (Self.told self.old)
+            (Self.told self.new) };
 
     /// Where no call is made, nothing is noted.
     ghost at_rest: { (store : Self) → notes [] store store };
+
+    /// Nor in a call of the child's life, which leaves each pass as it is.
+    ghost apart: { (before now : Self) → Self.rests before now → notes [] before now };
+
+    ghost admits_still: { (before now : Self) (pass : Self.Pass) → Self.rests before now → admits before pass
+        → admits now pass };
+
+    ghost met_still: { (before now : Self) → Self.rests before now → met now ≡ met before };
 
     /// What is noted later stands after what was noted before.
     ghost in_turn: { (before between now : Self) (first second : List BookEntry)

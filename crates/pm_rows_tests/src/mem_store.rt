@@ -3,6 +3,7 @@ ghost use Rattle.std.specs.Prelude.{◌≡◌, ◌+◌, ◌≤◌, ◌++◌, ◌
 ghost use Rattle.pm_query.specs.Limits.{HasShortRows};
 ghost use Rattle.pm_rows_tests.specs.MemStore.{count_behind};
 
+use pm_child_life::Seat;
 use pm_outside::Chronicle;
 use pm_query::{
     BookEntry, CHECKPOINT_BYTES, Checkpointed, Outcome, RedoFault, Seen, Staged, Store, StoreNo,
@@ -107,8 +108,19 @@ impl<B: Chronicle<BookEntry>> MemStore<B> {
     }
 }
 
+impl<B: Chronicle<BookEntry>> Seat for MemStore<B> {
+    ghost use Rattle.std.specs.Prelude.{◌≡◌, None};
+    ghost use Rattle.pm_query.specs.pm_child_life.Life.{no_child};
+
+    ghost child = { λ store. no_child };
+
+    ghost told = { λ store. None };
+
+    ghost rests = { λ before now. now ≡ before };
+}
+
 impl<B: Chronicle<BookEntry>> Store for MemStore<B> {
-    ghost use Rattle.std.proofs.Common.{Some, refl};
+    ghost use Rattle.std.proofs.Common.{[], Some, refl, subst, sym};
     ghost use Rattle.pm_rows_tests.specs.{MemStore.{Moment, Goes, Admits}, MemStoreLaws.{goes_nowhere, goes_on, same_number}};
 
     type Pass = MemPass;
@@ -250,6 +262,17 @@ impl<B: Chronicle<BookEntry>> Store for MemStore<B> {
     }
 
     ghost at_rest = { λ store. goes_nowhere (record { book = B.entries store.book; rows = store.rows; count = store.count; redone = store.redone }) };
+
+    ghost apart = { λ before now same. subst
+        (λ store. Goes []
+        (record { book = B.entries before.book; rows = before.rows; count = before.count; redone = before.redone })
+        (record { book = B.entries store.book; rows = store.rows; count = store.count; redone = store.redone }))
+        (sym same) (goes_nowhere (record { book = B.entries before.book; rows = before.rows; count = before.count; redone = before.redone })) };
+
+    ghost admits_still = { λ before now pass same admits. subst
+        (λ store. Admits pass.front store.count (B.spare store.book)) (sym same) admits };
+
+    ghost met_still = { λ before now same. refl };
 
     ghost in_turn = { λ before between now first second one two. goes_on first second
         (record { book = B.entries before.book; rows = before.rows; count = before.count; redone = before.redone })

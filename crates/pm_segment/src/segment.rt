@@ -7,6 +7,7 @@
 ghost use Rattle.std.specs.Prelude.{◌≡◌, [], false};
 ghost use Rattle.pm_store_apart.specs.{Rests.IsAtRest, declared.commits.Commits.{Commits, TheVariants.AtOnce}};
 
+use pm_child_life::Seat;
 use pm_disk::Disk;
 use pm_outside::Chronicle;
 use pm_query::{BookEntry, Checkpointed, Seen, Staged, Store, StoreNo};
@@ -149,9 +150,20 @@ impl<D: Disk, B: Chronicle<BookEntry>> Segment<D, B> {
     }
 }
 
+impl<D: Disk, B: Chronicle<BookEntry>> Seat for Segment<D, B> {
+    ghost use Rattle.std.specs.Prelude.{None};
+    ghost use Rattle.pm_query.specs.pm_child_life.Life.{no_child};
+
+    ghost child = { λ store. no_child };
+
+    ghost told = { λ store. None };
+
+    ghost rests = { λ before now. now ≡ before };
+}
+
 impl<D: Disk, B: Chronicle<BookEntry>> Store for Segment<D, B> {
-    ghost use Rattle.std.{proofs.Common.{Some, ap}, specs.Prelude.{◌≡◌, ◌⊎◌, ◌∷◌, [], All, List, IfOk, OnOk, OnErr}};
-    ghost use Rattle.pm_query.specs.{declared.{book.BookEntry.BookEntry, store.StoreNo.StoreNo}, Calls.{CheckpointNotes, EnterNotes, FlushNotes, HasReached, IsPast, LearnsFront, LearnsReason, LeaveNotes, MetAnother, MetLater, ReachesNoLess, RedoNotes, RunNotes, SeenNotes, new_pass, newcomer, with_front}, Limits.HasShortValues};
+    ghost use Rattle.std.{proofs.Common.{Some, ap, subst, sym}, specs.Prelude.{◌≡◌, ◌⊎◌, ◌∷◌, [], All, List, IfOk, OnOk, OnErr}};
+    ghost use Rattle.pm_query.specs.{declared.{book.BookEntry.BookEntry, store.StoreNo.StoreNo}, Calls.{CheckpointNotes, EnterNotes, FlushNotes, HasReached, IsPast, LearnsFront, LearnsReason, LeaveNotes, MetAnother, MetLater, ReachesNoLess, RedoNotes, RunNotes, SeenNotes, new_pass, newcomer, with_front}, Limits.HasShortValues, pm_child_life.Life.TouchesNoChild};
     ghost use Rattle.pm_store_apart.specs.{Causes.{MakesNoCall, RunCause, SeenCause, staged_behind}, Flushes.{FlushCause, FlushesAll, WritesNothing}, Moves.Moves, MovesLaws.{moves_none, moves_on, never_falls}, Passes.{Admits, user_in, view_of}, ReadsApart.AnswersEarly, Redos.{CheckpointCause, FullAtLast, GoesOnAsFound, HasReason, IsRead, LeavesFiles, LeavesUnread, MadeAfresh, MakesCalls}};
     ghost use Rattle.pm_segment.specs.Moment.{HasDiskOf, HasLogOf, disk_of, moment};
 
@@ -176,6 +188,7 @@ impl<D: Disk, B: Chronicle<BookEntry>> Store for Segment<D, B> {
         ensures admits { IfOk result (λ pass. Admits pass (moment self.new)) }
         ensures view { IfOk result (λ pass. view_of pass ≡ new_pass pid generation) }
         ensures stale { MetAnother (moment self.new).generation generation result }
+        ensures life { TouchesNoChild }
 
         ensures rest { HasLogOf self.old self.new }
     {
@@ -194,6 +207,7 @@ impl<D: Disk, B: Chronicle<BookEntry>> Store for Segment<D, B> {
         ensures refused { OnErr result (view_of pass.new ≡ view_of pass.old) }
         ensures short { IfOk result (λ staged. All HasShortValues staged.reply) }
         ensures stale { MetLater (moment self.new).generation pass.old.generation result }
+        ensures life { TouchesNoChild }
 
         ensures cause { RunCause (moment self.old) script.now result }
         ensures early { IfOk result (λ staged.
@@ -221,6 +235,7 @@ impl<D: Disk, B: Chronicle<BookEntry>> Store for Segment<D, B> {
         ensures admits { Admits pass.new (moment self.new) }
         ensures view { view_of pass.new ≡ view_of pass.old }
         ensures stale { MetLater (moment self.new).generation pass.old.generation result }
+        ensures life { TouchesNoChild }
 
         ensures cause { SeenCause (moment self.old).live front result }
         ensures rest { HasLogOf self.old self.new }
@@ -237,6 +252,7 @@ impl<D: Disk, B: Chronicle<BookEntry>> Store for Segment<D, B> {
         ensures view { view_of pass.new ≡ view_of pass.old }
         ensures stale { MetLater (moment self.new).generation pass.old.generation result }
         ensures learned { LearnsFront (λ fact. Unit {0}) result }
+        ensures life { TouchesNoChild }
 
         ensures cause { FlushCause (moment self.old) (moment self.new) result }
         ensures rest { WritesNothing (moment self.old).staged result → HasLogOf self.old self.new }
@@ -253,6 +269,7 @@ impl<D: Disk, B: Chronicle<BookEntry>> Store for Segment<D, B> {
         ensures view { view_of pass.new ≡ view_of pass.old }
         ensures stale { MetLater (moment self.new).generation pass.old.generation result }
         ensures learned { LearnsReason (λ fact. Unit {0}) result }
+        ensures life { TouchesNoChild }
 
         ensures read { OnOk result (IsRead (moment self.new).live) }
         ensures again { IsRead (moment self.old).live → HasDiskOf self.old self.new }
@@ -272,6 +289,7 @@ impl<D: Disk, B: Chronicle<BookEntry>> Store for Segment<D, B> {
         ensures admits { Admits pass.new (moment self.new) }
         ensures view { view_of pass.new ≡ view_of pass.old }
         ensures stale { MetLater (moment self.new).generation pass.old.generation result }
+        ensures life { TouchesNoChild }
 
         ensures cause { CheckpointCause (moment self.old).live clean result }
         ensures still { (moment self.old).staged ≡ [] → ¬ (MakesCalls result)
@@ -290,6 +308,7 @@ impl<D: Disk, B: Chronicle<BookEntry>> Store for Segment<D, B> {
             × LeaveNotes (user_in (moment self.old) pass) entries }
         ensures stale { Moves (BookEntry.Detached pass.pid ∷ []) (moment self.old)
             (moment self.new) ⊎ IsPast (moment self.new).generation pass.generation }
+        ensures life { TouchesNoChild }
 
         ensures rest { HasLogOf self.old self.new }
     {
@@ -297,6 +316,12 @@ impl<D: Disk, B: Chronicle<BookEntry>> Store for Segment<D, B> {
     }
 
     ghost at_rest = { λ store. moves_none (moment store) };
+
+    ghost apart = { λ before now same. subst (λ store. Moves [] (moment before) (moment store)) (sym same) (moves_none (moment before)) };
+
+    ghost admits_still = { λ before now pass same admits. subst (λ store. Admits pass (moment store)) (sym same) admits };
+
+    ghost met_still = { λ before now same. ap (λ store. (moment store).generation) same };
 
     ghost in_turn = { λ before between now first second. moves_on first second (moment before) (moment between) (moment now) };
 

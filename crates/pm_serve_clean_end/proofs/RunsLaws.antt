@@ -1,6 +1,6 @@
 -- What a run notes, by how it ended.
-use Rattle.std.{proofs.{Common.{◌≡◌, ◌⊎◌, inl, inr, ℕ, Bool, true, false, not, ◌&&◌, ◌||◌, List, [], ◌∷◌, ◌++◌, Option, Some, None, Result, Ok, Err, refl, sym, subst, ap, ◌∙◌, arith}, lemmas.List.Elements.recursion_from_All}, specs.List.AllByRecursion}
-use Rattle.pm_serve_crew.specs.{pm_exit.{declared.child.{Kind.Kind, Status.Status}, Ends.is_exit_0}, pm_child_life.{declared.life.GateNo.GateNo, Life.Told}, pm_admit.declared.Cac.Cac, pm_supervisor.Children.{is_checkpointer, is_startup_child}, pm_query.{declared.{book.BookEntry.{BookEntry, TheVariants.{Attached, Answered, Released, Detached, Redone, Broke, LogFull, CheckpointEnded}}, store.StoreNo.TheVariants.{Stale, Disk, Broken, Full, Redo, NoMemory}}, Calls.{User, LeaveNotes, NotesFault}}, pm_session_exchange.{Sent.{Turn, Ran, Faulted, NotUtf8, Cancelled, LogIsFull, Memory}, declared.ending.{Cause.Cause as SessionCause, Stage.{Stage, TheVariants.{Outside, Entering, Greeted}}}, Ends.status_by as status_of_session, Queries.{IsReleased, IsUnreleased, TurnNotes}}, pm_session.Session.{AllNotes, BreaksOff, EndsAt, Ending, HasEntered as HasEnteredSession, IsText, Leaves, NotesOutside, StopsInside}, pm_board.Places.is_connection, pm_board_life.Lives.MetRightly, pm_aux.{declared.cause.AuxiliaryEnd.{AuxiliaryEnd, TheVariants.{Redone as HasRedone, Flushed, Closed, LeftOut, Refused, TurnedAway, ToldToTerminate, ToldToQuit, Killed}}, Runs.{NotesBehind, Runner, user_in}, Work.{ClosesBy, Does as DoesWork, Flushes, HasEntered, IsKeptOut, IsPassing, LeavesIf, ReadsLog}, Ends.{lets_go, status_by}}, pm_worker.{declared.mail.MailTold.MailTold, Mails.IsFor, Runs.{Does, IsAuxRun, IsRun, Run, told_in}}}
+use Rattle.std.{proofs.{Common.{◌≡◌, ◌⊎◌, inl, inr, ℕ, Bool, true, false, not, ◌&&◌, ◌||◌, List, [], ◌∷◌, ◌++◌, Option, Some, None, Result, Ok, Err, refl, sym, subst, ap, ◌∙◌, arith}, lemmas.List.Elements.recursion_from_All}, specs.{Prelude.option_map, List.AllByRecursion}}
+use Rattle.pm_serve_crew.{specs.{pm_exit.{declared.child.{Kind.Kind, Status.Status}, Ends.is_exit_0}, pm_child_life.{declared.life.{Attempt.Attempt, GateNo.GateNo}, Life.{Told, answer_met, attempt}}, pm_admit.declared.Cac.Cac, pm_supervisor.Children.{is_checkpointer, is_startup_child}, pm_query.{declared.{book.BookEntry.{BookEntry, TheVariants.{Attached, Answered, Released, Detached, Redone, Broke, LogFull, CheckpointEnded}}, store.StoreNo.TheVariants.{Stale, Disk, Broken, Full, Redo, NoMemory}}, Calls.{User, LeaveNotes, NotesFault}}, pm_session_exchange.{Sent.{Turn, Ran, Faulted, NotUtf8, Cancelled, LogIsFull, Memory}, declared.ending.{Cause.Cause as SessionCause, Stage.{Stage, TheVariants.{Outside, Entering, Greeted}}}, Ends.status_by as status_of_session, Queries.{IsReleased, IsUnreleased, TurnNotes}}, pm_session.Session.{AllNotes, BreaksOff, EndsAt, Ending, HasEntered as HasEnteredSession, IsText, Leaves, NotesOutside, StopsInside}, pm_board.Places.is_connection, pm_board_life.Lives.MetRightly, pm_aux.{declared.cause.AuxiliaryEnd.{AuxiliaryEnd, TheVariants.{Redone as HasRedone, Flushed, Closed, LeftOut, Refused, TurnedAway, ToldToTerminate, ToldToQuit, Killed}}, Runs.{NotesBehind, Runner, user_in}, Work.{ClosesBy, Does as DoesWork, Flushes, HasEntered, IsKeptOut, IsPassing, LeavesIf, ReadsLog}, Ends.{lets_go, status_by}}, pm_worker.{declared.mail.MailTold.MailTold, Mails.IsFor, Runs.{Does, IsAuxRun, IsRun, Run, told_in}}}, proofs.UsesLaws.let_in_own}
 use Rattle.pm_serve_crew.specs.pm_exit.declared.child.Kind.TheVariants as kinds
 use Rattle.pm_serve_crew.specs.pm_admit.declared.Cac.TheVariants as decisions
 use Rattle.pm_store_remains.specs.pm_record.declared.fault.RedoFault.TheVariants as redo
@@ -105,7 +105,7 @@ module _ (generation : ℕ) (bad : Type 0) where
 
   -- what the gate let it into is this generation
   abbrev LetIn : ℕ → Told → Type 0
-  LetIn its told = told.met ≡ Some (Ok its) → its ≡ generation
+  LetIn its told = answer_met told ≡ Some (Ok its) → its ≡ generation
 
   of_outside : (user : User) (stage : Stage) (cause : SessionCause) (told : Told) (noted : List BookEntry) → LetIn user.generation told → HasEnteredSession stage user.generation (Some told)
       → NotesOutside user stage cause noted → AllMay generation bad noted
@@ -114,7 +114,7 @@ module _ (generation : ℕ) (bad : Type 0) where
   of_outside user Entering cause told noted let_in entered (inr (left, is, leaves)) = subst (AllMay generation bad) (sym is) (let_in entered, of_leaves user cause left leaves)
   of_outside user Greeted cause told noted let_in entered is = absurd is
 
-  greeted_in : (stage : Stage) (its : ℕ) (told : Told) → stage ≡ Greeted → HasEnteredSession stage its (Some told) → told.met ≡ Some (Ok its)
+  greeted_in : (stage : Stage) (its : ℕ) (told : Told) → stage ≡ Greeted → HasEnteredSession stage its (Some told) → answer_met told ≡ Some (Ok its)
   greeted_in Outside its told is entered = absurd cc
   greeted_in Entering its told is entered = entered
   greeted_in Greeted its told is entered = entered
@@ -238,10 +238,6 @@ module _ (generation : ℕ) (bad : Type 0) where
 
 -- ---- a run
 
--- who was let in at the gate is of its own generation
-let_in_own : (run : Run) (met : Option (Result ℕ GateNo)) (let_in : ℕ) → MetRightly run.child.offer met → met ≡ Some (Ok let_in) → let_in ≡ run.child.offer.generation
-let_in_own run met let_in right is = subst (MetRightly run.child.offer) is right
-
 bad_panic : (kind : Kind) (status : Status) (cause exit : SessionCause) → kind ≡ kinds.Backend → status ≡ status_of_session exit → cause ≡ why.Panicked → (exit ≡ cause) ⊎ (exit ≡ why.Killed)
     → is_bad kind status ≡ true
 bad_panic kind status cause exit backend its panicked (inl same) =
@@ -275,7 +271,7 @@ module _ (seed : List ℕ) (limit : ℕ) (gives : ℕ → Type 0) where
       let its = is.is in
       let status_is : run.child.status ≡ status_by its.cause = ap (λ d. d.status) its.done in
       of_behind run.child.offer.generation (is_bad run.child.offer.kind run.child.status ≡ true) kind (own_runner run) its.gate its.cause run.noted
-      (λ let_in gate_is. let_in_own run run.heard.met let_in right (its.met ∙ gate_is))
+      (λ let_in gate_is. let_in_own run.child.offer run.heard.met let_in right (ap (option_map (λ (a : Attempt). a.answer)) (its.met ∙ ap (option_map (attempt false)) gate_is)))
       (λ bad. ap (λ (k : Kind). is_bad k run.child.status) kind_is ∙ ap (is_bad kind) status_is ∙ bad)
       its.notes
 
@@ -283,7 +279,7 @@ module _ (seed : List ℕ) (limit : ℕ) (gives : ℕ → Type 0) where
   may_does (mail.Serve link decision) run fits right is =
       subst (AllMay run.child.offer.generation (is_bad run.child.offer.kind run.child.status ≡ true)) is.session.entries
       (of_text run.child.offer.generation (is_bad run.child.offer.kind run.child.status ≡ true) decision _ _ is.turns is.ending (told_in run) is.session.came_in is.session.whole is.session.noted
-      (λ met. let_in_own run run.heard.met is.generation right met)
+      (λ met. let_in_own run.child.offer run.heard.met is.generation right met)
       is.caused.gate
       (λ admitted panicked. bad_panic run.child.offer.kind run.child.status is.ending.cause is.ending.exit (fits.1 admitted) is.status panicked is.ending.exits)
       is.session.text)

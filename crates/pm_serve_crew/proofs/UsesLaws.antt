@@ -1,9 +1,9 @@
 -- Each run of a worker used the store once, or not at all, and has noted the end of redo that its child tells of.
-use Rattle.std.{proofs.{Common.{◌≡◌, ◌⊎◌, inl, inr, ℕ, Bool, true, false, List, [], ◌∷◌, ◌++◌, Option, Some, None, Result, Ok, Err, refl, sym, subst, ap, ◌∙◌}, lemmas.{List.Elements.recursion_from_All, Bool.eq-eqb}}, specs.{Prelude.{nat_eq, if◌then◌else◌, unwrap_or}, List.AllByRecursion}}
-use Rattle.pm_board_acts.specs.{pm_admit.declared.Cac.Cac, pm_aux.{declared.{aux_done.AuxDone.AuxDone, cause.AuxiliaryEnd.{AuxiliaryEnd, TheVariants.{Flushed, Closed, LeftOut, Refused, ToldToTerminate, ToldToQuit, Killed, Redone as HasRedone}}}, Ends.status_by, Runs.{EndsOutside, NotesBehind, Runner}, Work.{ClosesBy, Flushes, HasEntered, IsKeptOut, IsPassing, LeavesIf, ReadsLog, Does as DoesWork}}, pm_board.{declared.views.PastChild.PastChild, Places.is_connection}, pm_supervisor_chain.Chain.{InGeneration, IsAmong, kept_of, redos_of}, pm_exit.{declared.child.{Kind.Kind, Status.Status}, Ends.is_exit_0}, pm_board_life.Lives.MetRightly, Calls.kept_by, Mails.kept_told, pm_supervisor.Children.{is_dead_end, is_startup_child}, pm_worker.{declared.mail.{LinkTold.LinkTold, MailTold.MailTold}, Mails.IsFor, Runs.{Does, IsAuxRun, IsRun, IsSessionRun, Run, told_in}}}
+use Rattle.std.{proofs.{Common.{◌≡◌, ◌⊎◌, inl, inr, ℕ, Bool, true, false, List, [], ◌∷◌, ◌++◌, Option, Some, None, Result, Ok, Err, refl, sym, subst, ap, ◌∙◌}, lemmas.{List.Elements.recursion_from_All, Bool.eq-eqb}}, specs.{Prelude.{nat_eq, if◌then◌else◌, option_map, unwrap_or, IfSome}, List.AllByRecursion}}
+use Rattle.pm_board_acts.specs.{pm_admit.declared.Cac.Cac, pm_aux.{declared.{aux_done.AuxDone.AuxDone, cause.AuxiliaryEnd.{AuxiliaryEnd, TheVariants.{Flushed, Closed, LeftOut, Refused, ToldToTerminate, ToldToQuit, Killed, Redone as HasRedone}}}, Ends.status_by, Runs.{EndsOutside, NotesBehind, Runner}, Work.{ClosesBy, Flushes, HasEntered, IsKeptOut, IsPassing, LeavesIf, ReadsLog, Does as DoesWork}}, pm_board.{declared.views.{Offer.Offer, PastChild.PastChild}, Places.is_connection}, pm_supervisor_chain.Chain.{InGeneration, IsAmong, kept_of, redos_of}, pm_exit.{declared.child.{Kind.Kind, Status.Status}, Ends.is_exit_0}, pm_board_life.Lives.{IsAnswerTo, MetRightly}, Calls.kept_by, Mails.kept_told, pm_supervisor.Children.{is_dead_end, is_session, is_startup_child}, pm_worker.{declared.mail.{LinkTold.LinkTold, MailTold.MailTold}, Mails.IsFor, Runs.{Does, IsAuxRun, IsRun, IsSessionRun, Run, told_in}}}
 use Rattle.pm_board_acts.specs.pm_admit.declared.Cac.TheVariants as decisions
 use Rattle.pm_board_acts.specs.pm_aux.Ends as ends
-use Rattle.pm_session_answers.specs.{Own.is_by, pm_session_exchange.{declared.ending.{Stage.{Stage, TheVariants.{Outside, Entering, Greeted}}, Cause.Cause as SessionCause}, Queries.{IsUnreleased, TurnNotes}, Sent.{Turn, Ran, Faulted, NotUtf8, Cancelled, LogIsFull, Memory}}, pm_child_life.{declared.life.GateNo.GateNo, Life.Told}, pm_query.{Calls.{User, LeaveNotes, NotesFault, newcomer}, declared.{book.BookEntry.{BookEntry, TheVariants.{Opened, Attached, Answered, Released, Detached, Gone, Redone, Broke, LogFull, CheckpointEnded}}, store.StoreNo.{StoreNo, TheVariants.{Stale, Disk, Broken, Full, Redo, NoMemory}}}}, pm_session.Session.{AllNotes, BreaksOff, EndsAt, Ending, IsAdmitted, IsInside, IsText, Leaves, NotesOutside, StopsInside}}
+use Rattle.pm_session_answers.specs.{Own.is_by, pm_session_exchange.{declared.ending.{Stage.{Stage, TheVariants.{Outside, Entering, Greeted}}, Cause.Cause as SessionCause}, Queries.{IsUnreleased, TurnNotes}, Sent.{Turn, Ran, Faulted, NotUtf8, Cancelled, LogIsFull, Memory}}, pm_child_life.{declared.life.{Attempt.Attempt, GateNo.GateNo}, Life.{Told, answer_met, attempt}}, pm_query.{Calls.{User, LeaveNotes, NotesFault, newcomer}, declared.{book.BookEntry.{BookEntry, TheVariants.{Opened, Attached, Answered, Released, Detached, Gone, Redone, Broke, LogFull, CheckpointEnded}}, store.StoreNo.{StoreNo, TheVariants.{Stale, Disk, Broken, Full, Redo, NoMemory}}}}, pm_session.Session.{AllNotes, BreaksOff, EndsAt, Ending, IsAdmitted, IsInside, IsText, Leaves, NotesOutside, StopsInside}}
 use Rattle.pm_serve_crew.specs.{Redos.{redo_told, told_if}, Uses.{AllBy, HasUsed, IsWorkOf, UsesStore}}
 use Rattle.pm_session_answers.specs.pm_session_exchange.declared.ending.Cause.TheVariants as why
 use Rattle.pm_board_acts.specs.pm_exit.declared.child.Kind.TheVariants as kinds
@@ -213,7 +213,7 @@ module _ (child : PastChild MailTold) where
   }
 
   aux_inside : (stamp : Option ℕ) (kind : Kind) (gate : Option (Result ℕ GateNo)) (cause : AuxiliaryEnd) (noted : List BookEntry) → is_dead_end child.offer.kind ≡ false
-      → redo_told child ≡ redo_by child.offer.generation kind cause → MetRightly child.offer gate → NotesBehind kind (who stamp) gate cause noted → (noted ≡ []) ⊎ HasUsed child noted
+      → redo_told child ≡ redo_by child.offer.generation kind cause → MetRightly child.offer (option_map (attempt false) gate) → NotesBehind kind (who stamp) gate cause noted → (noted ≡ []) ⊎ HasUsed child noted
   aux_inside stamp kind None cause noted serves told met notes = inl notes.1
   aux_inside stamp kind (Some (Err refusal)) cause noted serves told met notes = inl notes.1
   aux_inside stamp kind (Some (Ok generation)) cause noted serves told met (inl out) = inl (kept_out kind (entrant stamp generation) cause noted out)
@@ -251,7 +251,7 @@ module _ (child : PastChild MailTold) where
   read_redo user _ work left is = absurd is
 
   startup_redo : (stamp : Option ℕ) (gate : Option (Result ℕ GateNo)) (cause : AuxiliaryEnd) (noted : List BookEntry) → redo_told child ≡ redo_by child.offer.generation kinds.Startup cause
-      → MetRightly child.offer gate → NotesBehind kinds.Startup (who stamp) gate cause noted → AllNoted noted (redo_told child)
+      → MetRightly child.offer (option_map (attempt false) gate) → NotesBehind kinds.Startup (who stamp) gate cause noted → AllNoted noted (redo_told child)
   startup_redo stamp None cause noted told met notes = tells_none noted (told ∙ outside_redo child.offer.generation cause notes.0)
   startup_redo stamp (Some (Err refusal)) cause noted told met notes = tells_none noted (told ∙ ap (λ (c : AuxiliaryEnd). redo_by child.offer.generation kinds.Startup c) notes.0)
   startup_redo stamp (Some (Ok generation)) cause noted told met (inl out) =
@@ -281,8 +281,13 @@ serves_none : (kind : Kind) → is_connection kind ≡ true → is_startup_child
 serves_none kinds.Startup is = absurd cc
 serves_none _ is = refl
 
--- who was let in met its own generation
-let_in : (stage : Stage) (generation : ℕ) (told : Told) → IsInside stage → session.HasEntered stage generation (Some told) → told.met ≡ Some (Ok generation)
+-- who was let in is of the generation that it met
+pub let_in_own : {D : Type 0} (o : Offer D) (met : Option Attempt) (generation : ℕ) → MetRightly o met → option_map (λ (a : Attempt). a.answer) met ≡ Some (Ok generation) → generation ≡ o.generation
+let_in_own o None generation right is = absurd cc
+let_in_own o (Some a) generation right is = subst (λ (answer : Option (Result ℕ GateNo)). IfSome answer (IsAnswerTo o.generation (is_session o.kind) a.is_ordinary)) is right
+
+-- and it met its own
+let_in : (stage : Stage) (generation : ℕ) (told : Told) → IsInside stage → session.HasEntered stage generation (Some told) → answer_met told ≡ Some (Ok generation)
 let_in Outside generation told inside met = absurd inside
 let_in Entering generation told inside met = met
 let_in Greeted generation told inside met = met
@@ -299,7 +304,7 @@ module _ (stamp : Option ℕ) (seed : List ℕ) (limit : ℕ) (gives : ℕ → T
       by (inl nothing) = inl (sym is.session.entries ∙ nothing)
       by (inr (entered, admitted, inside)) =
           let generation : is.generation ≡ run.child.offer.generation =
-          subst (MetRightly run.child.offer) (let_in is.ending.stage is.generation (told_in run) inside is.caused.gate) met in
+          let_in_own run.child.offer run.heard.met is.generation met (let_in is.ending.stage is.generation (told_in run) inside is.caused.gate) in
           inr (used run.child is.generation run.noted generation (ap is_dead_end (fits.1 admitted)) (subst (Entered run.child is.generation) is.session.entries entered))
 
   of_aux : (kind : Kind) (run : Run) (is : IsAuxRun stamp kind run) → run.child.offer.kind ≡ kind → MetRightly run.child.offer run.heard.met

@@ -1,6 +1,6 @@
 -- The laws: the first crash of a server's journal has a cause, and a server that ends after a crash has had one.
 use Rattle.std.{proofs.{Common.{◌≡◌, ◌⊎◌, inl, inr, ℕ, ◌+◌, ◌<◌, ◌≤◌, Bool, true, false, not, cond, ◌&&◌, ◌||◌, List, [], ◌∷◌, ◌++◌, Option, None, Some, Err, refl, sym, ap, subst, ◌∙◌, arith, append_assoc}, lemmas.{Bool.{both_ways, false≢true, true≢false}, List.Elements.recursion_from_All}}, specs.{Prelude.is_some, List.{AllByRecursion, fold}}}
-use Rattle.pm_serve_crew.{specs.{pm_facts.Lists.{each_first, each_last}, pm_exit.{declared.child.{Kind.Kind, Status.TheVariants.Code}, Ends.{is_exit_0, is_exit_1}}, pm_supervisor.{declared.{Limits.Limits, Reason.{Reason, TheVariants.{Crash, Stop}}}, Steps.is_normal}, pm_state.{declared.{action.Action.Action, event.PmEvent.PmEvent, machine.Machine.Machine}, Exits.is_shutdown, Laws.RestartsSafely, Promises.{has_act, is_ask_checkpoint, is_terminate}, Journal.{IsLegal, Replay, all_replayed, replay_begun}}, pm_child_life.Life.{Checkpoint, Quit, Told, was_told}, pm_supervisor_journal.Stands.any_moment, pm_board.{declared.views.{Offer.Offer, RosterStep.RosterStep, RosterView.RosterView}, Gate.first_gate, Heard.IsKnownAtLast, Latches.{AnsweredBefore, HeardRightly, doings_of, times_given, times_sent}}, pm_query.declared.book.BookEntry.{BookEntry, TheVariants.Broke}, pm_segment.{Moves.IsShown, Unread.is_break}, pm_board_acts.Seating.{Ended, Move, Notes, Seating, board_steps, empty, entries_from, journal_of, seating_by, seating_from, seating_of, steps_from}, pm_store_shared.declared.views.Noted.Noted, pm_worker.{declared.mail.MailTold.MailTold, Runs.told_in}, Left.Manner, pm_supervisor_chain.Chain.IsPidOf}, proofs.{pm_board.BoardLaws.sent-append, pm_board_acts.FoldingLaws.{seating-append, steps-append}, PidsLaws.pids_in}}
+use Rattle.pm_serve_crew.{specs.{pm_facts.Lists.{each_first, each_last}, pm_exit.{declared.child.{Kind.Kind, Status.TheVariants.Code}, Ends.{is_exit_0, is_exit_1}}, pm_supervisor.{declared.{Limits.Limits, Reason.{Reason, TheVariants.{Crash, Stop}}}, Steps.is_normal}, pm_state.{declared.{action.Action.Action, event.PmEvent.PmEvent, machine.Machine.Machine}, Exits.is_shutdown, Laws.RestartsSafely, Promises.{has_act, is_ask_checkpoint, is_terminate}, Journal.{IsLegal, Replay, all_replayed, replay_begun}}, pm_child_life.Life.{Checkpoint, Quit, Told, attempt, was_told}, pm_supervisor_journal.Stands.any_moment, pm_board.{declared.views.{Offer.Offer, RosterStep.RosterStep, RosterView.RosterView}, Gate.first_gate, Heard.IsKnownAtLast, Latches.{AnsweredBefore, HeardRightly, doings_of, times_given, times_sent}}, pm_query.declared.book.BookEntry.{BookEntry, TheVariants.Broke}, pm_segment.{Moves.IsShown, Unread.is_break}, pm_board_acts.Seating.{Ended, Move, Notes, Seating, board_steps, empty, entries_from, journal_of, seating_by, seating_from, seating_of, steps_from}, pm_store_shared.declared.views.Noted.Noted, pm_worker.{declared.mail.MailTold.MailTold, Runs.told_in}, Left.Manner, pm_supervisor_chain.Chain.IsPidOf}, proofs.{pm_board.BoardLaws.sent-append, pm_board_acts.FoldingLaws.{seating-append, steps-append}, PidsLaws.pids_in}}
 use Rattle.pm_store_remains.{specs.{pm_disk.Cause.Rose, pm_server.Views.DiskView, Remains.Remains}, proofs.{pm_state.ReplayLaws.{acts_in, ends_at, legal_behind, legal_front}, pm_server.CalmLaws.{is_closing, shuts}}}
 use Rattle.pm_serve_crew.specs.pm_child_life.declared.life.GateNo.TheVariants as gate_no
 use Rattle.pm_serve_crew.specs.pm_exit.declared.child.Class.TheVariants as class
@@ -215,7 +215,7 @@ module _ (safely : RestartsSafely) (limits : Limits) (manner : Manner) (count : 
     unquit Stop = sent 1 (no_quits Stop first.before calm.harmless)
 
     -- nor met a notice at the gate
-    unnoticed : (o : Offer MailTold) (reason : Reason) (generation : ℕ) → AnsweredBefore (doings_of board) (record o { pid = end.pid }) (Err (gate_no.Quit generation reason)) → ⊥
+    unnoticed : (o : Offer MailTold) (reason : Reason) (generation : ℕ) → AnsweredBefore (doings_of board) (record o { pid = end.pid }) (attempt false (Err (gate_no.Quit generation reason))) → ⊥
     unnoticed o reason generation (before, after, is, there, own, answer) =
         let before_quiet = quiet_before front_steps end.pid end.kind behind_front.generation (rest_steps ++ u.board_is.last) before after (sym steps ∙ is)
         (quiet (empty count) found.front (subst (AllByRecursion IsHarmless) (sym found.front_is) calm.harmless)) there.1 in
@@ -244,7 +244,7 @@ module _ (safely : RestartsSafely) (limits : Limits) (manner : Manner) (count : 
     blame (WasToldToQuit reason told) =
         (let some : 0 < times_sent (number_of (Quit reason)) end.pid board.notes.steps = was_sent (number_of (Quit reason)) (quit_given reason its.run.heard its.run.asked told) in
         absurd (omega (arith, some, unquit reason)))
-    blame (MetNotice generation reason met_it) = absurd (unnoticed its.run.child.offer reason generation (heard.shown (Err (gate_no.Quit generation reason)) met_it))
+    blame (MetNotice generation reason met_it) = absurd (unnoticed its.run.child.offer reason generation (heard.shown (attempt false (Err (gate_no.Quit generation reason))) met_it))
     blame (GaveUp kind status told) =
         absurd (fine_never (gave_up end m at (sym (ap (λ (x : Ended). x.kind) its.ended) ∙ kind) (sym (ap (λ (x : Ended). x.status) its.ended) ∙ status)
         (asked (was_sent 2 (terminate_given its.run.heard its.run.asked told)))))

@@ -1,7 +1,7 @@
 -- What a run of a child came to: it ended as it should, or by one of these causes.
-use Rattle.std.{proofs.Common.{◌≡◌, ◌⊎◌, inl, inr, ℕ, Bool, true, false, ◌||◌, List, [], ◌∷◌, ◌++◌, Option, Some, None, Result, Ok, Err, refl, sym, ap, subst, ◌∙◌}, specs.Prelude.is_some}
+use Rattle.std.{proofs.Common.{◌≡◌, ◌⊎◌, inl, inr, ℕ, Bool, true, false, ◌||◌, List, [], ◌∷◌, ◌++◌, Option, Some, None, Result, Ok, Err, refl, sym, ap, subst, ◌∙◌}, specs.Prelude.{is_some, option_map}}
 use Rattle.pm_store_remains.specs.pm_disk.Cause.{Rose}
-use Rattle.pm_serve_crew.specs.{pm_exit.{declared.child.{Kind.Kind, Status.{Status, TheVariants.{Code, Signal}}}, Ends.{is_exit_0, is_exit_1}}, pm_admit.declared.Cac.Cac, pm_supervisor.{declared.Reason.Reason, Children.is_session}, pm_child_life.{declared.life.GateNo.GateNo, Life.{Told, Kill, Quit, Terminate, Checkpoint, was_told}}, pm_query.{declared.{book.BookEntry.{BookEntry, TheVariants.{Attached, Broke}}, store.StoreNo.{StoreNo, TheVariants.{Stale, Disk, Broken, Full, Redo, NoMemory}}}, Calls.{User, NotesFault}}, pm_session_exchange.{declared.ending.{Cause.Cause as SessionCause, Stage.{Stage, TheVariants.{Outside, Entering, Greeted}}}, Ends.{LetsGo, status_by as session_status}, Sent.Turn}, pm_session.Session.{CausedBy, Ending, EndsAt, ByStage, IsText, TurnsAway}, pm_aux.{declared.{aux_done.AuxDone.AuxDone, cause.AuxiliaryEnd.{AuxiliaryEnd, TheVariants.{Redone, Flushed, Closed, LeftOut, Refused, TurnedAway, ToldToTerminate, ToldToQuit, Killed}}}, Ends.{IsMetBehind, fault_by, kept_by, status_by}, Runs.{EndsOutside, MayBeShort, NotesBehind, Runner, user_in}, Signals.IsToldTo, Work.{HasEntered, IsKeptOut}}, pm_board.Places.is_connection, pm_worker.{declared.mail.{LinkTold.LinkTold, MailTold.MailTold}, Mails.{IsFor, traffic_in}, Runs.{Does, IsAuxRun, IsRun, IsSessionRun, Run, close_run, told_in}}, pm_board_life.Lives.MetRightly, Left.Manner}
+use Rattle.pm_serve_crew.specs.{pm_exit.{declared.child.{Kind.Kind, Status.{Status, TheVariants.{Code, Signal}}}, Ends.{is_exit_0, is_exit_1}}, pm_admit.declared.Cac.Cac, pm_supervisor.{declared.Reason.Reason, Children.is_session}, pm_child_life.{declared.life.GateNo.GateNo, Life.{Told, Kill, Quit, Terminate, Checkpoint, attempt, was_told}}, pm_query.{declared.{book.BookEntry.{BookEntry, TheVariants.{Attached, Broke}}, store.StoreNo.{StoreNo, TheVariants.{Stale, Disk, Broken, Full, Redo, NoMemory}}}, Calls.{User, NotesFault}}, pm_session_exchange.{declared.ending.{Cause.Cause as SessionCause, Stage.{Stage, TheVariants.{Outside, Entering, Greeted}}}, Ends.{LetsGo, status_by as session_status}, Sent.Turn}, pm_session.Session.{CausedBy, Ending, EndsAt, ByStage, IsText, TurnsAway}, pm_aux.{declared.{aux_done.AuxDone.AuxDone, cause.AuxiliaryEnd.{AuxiliaryEnd, TheVariants.{Redone, Flushed, Closed, LeftOut, Refused, TurnedAway, ToldToTerminate, ToldToQuit, Killed}}}, Ends.{IsMetBehind, fault_by, kept_by, status_by}, Runs.{EndsOutside, MayBeShort, NotesBehind, Runner, user_in}, Signals.IsToldTo, Work.{HasEntered, IsKeptOut}}, pm_board.Places.is_connection, pm_worker.{declared.mail.{LinkTold.LinkTold, MailTold.MailTold}, Mails.{IsFor, traffic_in}, Runs.{Does, IsAuxRun, IsRun, IsSessionRun, Run, close_run, told_in}}, pm_board_life.Lives.MetRightly, Left.Manner}
 use Rattle.pm_serve_crew.specs.pm_exit.declared.child.Kind.TheVariants as kinds
 use Rattle.pm_serve_crew.specs.pm_child_life.declared.life.GateNo.TheVariants as gate_no
 use Rattle.pm_store_remains.specs.pm_record.declared.fault.RedoFault.TheVariants as redo
@@ -22,7 +22,7 @@ pub data Outcome (manner : Manner) (run : Run) : Type 0 where
   EndedFine : IsFineAs run.child.offer.kind run.child.status run.child.was_active (told_in run) → Outcome manner run
   WasKilled : run.child.status ≡ Signal 9 → was_told Kill (told_in run) → Outcome manner run
   WasToldToQuit : (reason : Reason) → was_told (Quit reason) (told_in run) → Outcome manner run
-  MetNotice : (generation : ℕ) → (reason : Reason) → run.heard.met ≡ Some (Err (gate_no.Quit generation reason)) → Outcome manner run
+  MetNotice : (generation : ℕ) → (reason : Reason) → run.heard.met ≡ Some (attempt false (Err (gate_no.Quit generation reason))) → Outcome manner run
   GaveUp : run.child.offer.kind ≡ kinds.Startup → run.child.status ≡ Code 1 → was_told Terminate (told_in run) → Outcome manner run
   DiskFailed : (IsUnbroken run.noted → ⊥) → Outcome manner run
   HadNoRedo : CannotRedo run → Outcome manner run
@@ -135,7 +135,7 @@ module _ (manner : Manner) (run : Run) where
       (entered.noted_is ∙ ap (λ (es : List BookEntry). Attached user.pid user.generation ∷ es) entered.worked.noted_is) breaks
 
   -- the gate refused it: by a notice, since it is no session
-  turned : (kind : Kind) (who : Runner) (gate : Option (Result ℕ GateNo)) (refusal : GateNo) → run.heard.met ≡ gate → MetRightly run.child.offer run.heard.met
+  turned : (kind : Kind) (who : Runner) (gate : Option (Result ℕ GateNo)) (refusal : GateNo) → run.heard.met ≡ option_map (attempt false) gate → MetRightly run.child.offer run.heard.met
       → is_session run.child.offer.kind ≡ false → NotesBehind kind who gate (TurnedAway refusal) run.noted → (EndsOutside kind (TurnedAway refusal) → ⊥)
       → ((user : User) → HasEntered kind user (TurnedAway refusal) run.noted → ⊥) → Comes
   turned kind who None refusal met right none notes out never = absurd (out notes.0)
@@ -146,6 +146,8 @@ module _ (manner : Manner) (run : Run) where
       absurd (let never : true ≡ false = sym (subst (MetRightly run.child.offer) met right).1 ∙ none in cc)
   turned kind who (Some (Err (gate_no.TooMany count))) refusal met right none notes out never =
       absurd (let never : true ≡ false = sym (subst (MetRightly run.child.offer) met right) ∙ none in cc)
+  turned kind who (Some (Err (gate_no.Reserved count))) refusal met right none notes out never =
+      absurd (let never : false ≡ true = (subst (MetRightly run.child.offer) met right).1 in cc)
 
   -- what is known of an auxiliary child of this kind that ended by this cause
   record Aux (kind : Kind) (cause : AuxiliaryEnd) : Type 0 where
@@ -156,7 +158,7 @@ module _ (manner : Manner) (run : Run) where
     pub back : run.child.back ≡ mail.Aux (fault_by cause) (kept_by cause)
     pub told_to : IsToldTo cause (Some (told_in run))
     pub short : cause ≡ Refused NoMemory → MayBeShort kind (Some (told_in run))
-    pub met : run.heard.met ≡ gate
+    pub met : run.heard.met ≡ option_map (attempt false) gate
     pub right : MetRightly run.child.offer run.heard.met
     pub another : IsMetBehind run.met (fault_by cause)
     pub notes : NotesBehind kind who gate cause run.noted

@@ -1,14 +1,14 @@
 -- The workers of the first slots, one slot further.
 use Rattle.std.{proofs.Common.{◌≡◌, ◌≢◌, ◌⊎◌, inl, inr, ℕ, ◌+◌, ◌<◌, List, [], ◌∷◌, ◌++◌, length, map, refl, sym, ap, ◌∙◌, subst, arith, append-nil, length-append}, specs.{Prelude.{None, Some, slice_get}, List.AllByRecursion}}
 use native.Mathlib.Decide.{ℕ_discrete}
-use Rattle.pm_serve_crew.specs.{pm_facts.Lists.same_everywhere, pm_board.{declared.views.{RosterView.RosterView, PastChild.PastChild, Sight.TheVariants.{Unused, Gathered}}, Heard.HeardAsSent, Places.{slot_at, slot_view}, Rule.{at_put, put}, Told.new_roster}, pm_store_shared.{declared.views.{Joined.Joined, Noted.Noted}, Log.entries_of, Told.{SharedModel, shared_with}}, pm_worker.{declared.mail.MailTold.MailTold, Runs.{Does, IsRun, Run, close_run, noted_by}}, Left.{IsBorneOut, IsWorked, Manner}}
+use Rattle.pm_serve_crew.specs.{pm_facts.Lists.same_everywhere, pm_board.{declared.views.{SessionLimit.SessionLimit, RosterView.RosterView, PastChild.PastChild, Sight.TheVariants.{Unused, Gathered}}, Heard.HeardAsSent, Places.{slot_at, slot_view}, Rule.{at_put, put}, Told.new_roster}, pm_store_shared.{declared.views.{Joined.Joined, Noted.Noted}, Log.entries_of, Told.{SharedModel, shared_with}}, pm_worker.{declared.mail.MailTold.MailTold, Runs.{Does, IsRun, Run, close_run, noted_by}}, Left.{IsBorneOut, IsWorked, Manner}}
 use Rattle.pm_serve_crew.specs.pm_worker.declared.mail.MailTold.TheVariants as told
 use Rattle.pm_serve_pool.{specs.{Closing.{AreClosed, HasClosedOne, HasHadLast, IsShut, MayClose}, Works.AreUnused}, proofs.{Lists.{all_of_each, got_end, got_within}, Slots.near_or_here}}
 
 pub shut_first : (count : ℕ) (d : RosterView MailTold) → MayClose count d → IsShut 0 d
 shut_first count d may = record { gathered = λ j less. absurd (omega arith); free = λ j behind. may.free j; pids = (let h = may.pids in omega arith) }
 
-pub shut_new : (count limit posts : ℕ) → IsShut 0 (new_roster count limit posts)
+pub shut_new : (count : ℕ) (limit : SessionLimit) (posts : ℕ) → IsShut 0 (new_roster count limit posts)
 shut_new count limit posts =
     record {
       gathered = λ j less. absurd (omega arith);
@@ -116,7 +116,7 @@ module _ (manner : Manner) where
       append-nil run.noted ∙ ap (λ (r : Run). r.noted) does
   closing_notes_nothing (run ∷ run' ∷ runs) child closes is each = absurd (cc)
 
-  pub unused_all : {F : Type 0} (n count limit posts : ℕ) (e : RosterView MailTold) (s t : SharedModel F) → (a : AreClosed manner n (new_roster count limit posts) e s t) → AreUnused a.joined
+  pub unused_all : {F : Type 0} (n count : ℕ) (limit : SessionLimit) (posts : ℕ) (e : RosterView MailTold) (s t : SharedModel F) → (a : AreClosed manner n (new_roster count limit posts) e s t) → AreUnused a.joined
   unused_all n count limit posts e s t a = all_of_each (λ his. his.own ≡ []) a.joined each
     where
       each : (k : ℕ) (his : Joined) → slice_get a.joined k ≡ Some his → his.own ≡ []

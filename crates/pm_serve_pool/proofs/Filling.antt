@@ -1,14 +1,14 @@
 -- Works, one more in front of those so far.
 use Rattle.std.{proofs.Common.{◌≡◌, ℕ, ◌+◌, List, [], ◌∷◌, ◌++◌, length, ap, ◌∙◌, subst, arith, length-append}, specs.{Prelude.{Option, Some, slice_get}, Option.option_to_list}}
 use Rattle.atomic_table.specs.Seated.{TableId}
-use Rattle.pm_serve_crew.specs.{pm_facts.Lists.got_last, pm_board.{Models.{AreNewPosts, PostModel}, Rule.idle_post}, pm_store_shared.{declared.token_store.TokenStore.TokenStore, Told.{AreNewTokens, SharedModel, TokenModel}}, pm_worker.declared.{child.Child.Child, mail.MailTold.MailTold}}
-use Rattle.pm_serve_pool.{specs.{declared.plan.Terms.Terms, Works.{EachFrom, IsUnusedToken, IsWorkOf}}, proofs.Lists.one_before}
+use Rattle.pm_serve_crew.specs.{pm_facts.Lists.got_last, pm_board.{declared.views.SessionLimit.SessionLimit, Models.{AreNewPosts, PostModel}, Rule.idle_post}, pm_store_shared.{declared.token_store.TokenStore.TokenStore, Told.{AreNewTokens, SharedModel, TokenModel}}, pm_worker.declared.{child.Child.Child, mail.MailTold.MailTold}}
+use Rattle.pm_serve_pool.{specs.{declared.plan.Terms.Terms, Plan.sessions_of, Works.{EachFrom, IsUnusedToken, IsWorkOf}}, proofs.Lists.one_before}
 
 -- the idle post of the slot k
-abbrev pub IsPostOf : (board : TableId) (limit k : ℕ) → PostModel MailTold → Type 0
+abbrev pub IsPostOf : (board : TableId) (limit : SessionLimit) (k : ℕ) → PostModel MailTold → Type 0
 IsPostOf board limit k post = post ≡ record { table = board; slot = k; knows = idle_post limit }
 
-pub posts_first : (n limit : ℕ) (board : TableId) (posts : List (PostModel MailTold)) → AreNewPosts n limit board posts → EachFrom (IsPostOf board limit) 0 posts
+pub posts_first : (n : ℕ) (limit : SessionLimit) (board : TableId) (posts : List (PostModel MailTold)) → AreNewPosts n limit board posts → EachFrom (IsPostOf board limit) 0 posts
 posts_first n limit board posts new i post at =
     let same : i ≡ 0 + i = omega arith in
     subst (λ (k : ℕ). IsPostOf board limit k post) same (new.1 i post at)
@@ -39,7 +39,7 @@ last_of P xs x each =
     subst (λ (k : ℕ). P k x) same (each (length xs) x (got_last xs x))
 
 module _ {R C L D B : Type 0} {link : _} (gives : C → ℕ → Type 0) (terms : Terms C) (board home : TableId) (first : Option D) where
-  pub one_work : (k : ℕ) (token : TokenModel D) (post : PostModel MailTold) (clock : C) (work : Child R C L (TokenStore R C D B) link) → IsNewToken home first k token → IsPostOf board terms.plan.max_connections k post
+  pub one_work : (k : ℕ) (token : TokenModel D) (post : PostModel MailTold) (clock : C) (work : Child R C L (TokenStore R C D B) link) → IsNewToken home first k token → IsPostOf board (sessions_of terms.plan.limits) k post
       → ((moment : ℕ) → gives clock moment → gives terms.clock.value moment) → work.tools.clock ≡ clock → work.tools.seed ≡ terms.plan.seed → work.tools.conf ≡ terms.plan.conf → work.post ≡ post
       → work.store.token ≡ token → IsWorkOf gives terms board home first k work
   one_work k token post clock work unused is_post moments clock_is seed conf post_is token_is =
@@ -55,12 +55,12 @@ module _ {R C L D B : Type 0} {link : _} (gives : C → ℕ → Type 0) (terms :
       }
 
   pub filled_more : (rest : List (TokenModel D)) (token : TokenModel D) (posts : List (PostModel MailTold)) (post : PostModel MailTold) (clock : C) (work : Child R C L (TokenStore R C D B) link)
-      (works : List (Child R C L (TokenStore R C D B) link)) → EachFrom (IsNewToken home first) 0 (rest ++ token ∷ []) → EachFrom (IsPostOf board terms.plan.max_connections) 0 (posts ++ post ∷ [])
+      (works : List (Child R C L (TokenStore R C D B) link)) → EachFrom (IsNewToken home first) 0 (rest ++ token ∷ []) → EachFrom (IsPostOf board (sessions_of terms.plan.limits)) 0 (posts ++ post ∷ [])
       → length posts ≡ length rest → ((moment : ℕ) → gives clock moment → gives terms.clock.value moment) → work.tools.clock ≡ clock → work.tools.seed ≡ terms.plan.seed
       → work.tools.conf ≡ terms.plan.conf → work.post ≡ post → work.store.token ≡ token → EachFrom (IsWorkOf gives terms board home first) (length (rest ++ token ∷ [])) works
       → EachFrom (IsWorkOf gives terms board home first) (length rest) (work ∷ works)
   filled_more rest token posts post clock work works tokens_are posts_are same moments clock_is seed conf post_is token_is each =
       one_before (IsWorkOf gives terms board home first) (length rest) work works
       (one_work (length rest) token post clock work (last_of (IsNewToken home first) rest token tokens_are)
-      (subst (λ (k : ℕ). IsPostOf board terms.plan.max_connections k post) same (last_of (IsPostOf board terms.plan.max_connections) posts post posts_are)) moments clock_is seed conf post_is
+      (subst (λ (k : ℕ). IsPostOf board (sessions_of terms.plan.limits) k post) same (last_of (IsPostOf board (sessions_of terms.plan.limits)) posts post posts_are)) moments clock_is seed conf post_is
       token_is) (subst (λ (n : ℕ). EachFrom (IsWorkOf gives terms board home first) n works) (length-append rest (token ∷ [])) each)

@@ -77,6 +77,7 @@ module _ {gives more : ℕ → Type 0} (on : (moment : ℕ) → gives moment →
         active = r.active;
         behind = r.behind;
         cancels = r.cancels;
+        come = r.come;
         overtaken = r.overtaken;
       }
 

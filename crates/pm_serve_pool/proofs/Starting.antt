@@ -1,14 +1,14 @@
 -- Works that were started, and those that are left.
 use Rattle.std.{specs.Prelude.Option, proofs.{Common.{◌≡◌, ℕ, ◌+◌, List, ◌++◌, length, map, sym, ap, ◌∙◌, subst, All, arith, length-append}, lemmas.List.{length-map, Elements.All-from_recursion}}}
 use Rattle.atomic_table.specs.Seated.{TableId}
-use Rattle.pm_serve_crew.specs.{pm_board.{declared.views.{RosterView.RosterView, Work.TheVariants.Idle}, Told.new_roster}, pm_store_shared.{declared.{views.Joined.Joined, token_store.TokenStore.TokenStore}, Told.{IsNewShared, SharedModel}}, pm_worker.declared.{child.Child.Child, mail.MailTold.MailTold}, Left.Manner}
+use Rattle.pm_serve_crew.specs.{pm_board.{declared.views.{SessionLimit.SessionLimit, RosterView.RosterView, Work.TheVariants.Idle}, Told.new_roster}, pm_store_shared.{declared.{views.Joined.Joined, token_store.TokenStore.TokenStore}, Told.{IsNewShared, SharedModel}}, pm_worker.declared.{child.Child.Child, mail.MailTold.MailTold}, Left.Manner}
 use Rattle.pm_serve_pool.{specs.{declared.plan.Terms.Terms, Closing.AreClosed, Works.{AreUnused, EachFrom, IsIdleShared, IsUnusedWork, IsWorkOf}}, proofs.{Closed.unused_all, Lists.{all_of_each, back_of_all}, Returning.unused_works}}
 
 pub idle_new : {F : Type 0} (n : ℕ) (first : F) (s : SharedModel F) → IsNewShared n first s → IsIdleShared s
 idle_new n first s new = record { own = new.own; unused = subst (λ (joined : List Joined). AreUnused joined) (sym new.none_joined) tt }
 
 -- after workers that were closed at once
-pub idle_closed : {F : Type 0} (manner : Manner) (n tokens count limit posts : ℕ) (d e : RosterView MailTold) (first : F) (s t : SharedModel F) → d ≡ new_roster count limit posts → IsNewShared tokens first s
+pub idle_closed : {F : Type 0} (manner : Manner) (n tokens count : ℕ) (limit : SessionLimit) (posts : ℕ) (d e : RosterView MailTold) (first : F) (s t : SharedModel F) → d ≡ new_roster count limit posts → IsNewShared tokens first s
     → AreClosed manner n d e s t → IsIdleShared t
 idle_closed {F} manner n tokens count limit posts d e first s t d_is new closed =
     let closed' = subst (λ (x : RosterView MailTold). AreClosed manner n x e s t) d_is closed in

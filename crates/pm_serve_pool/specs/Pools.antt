@@ -1,12 +1,13 @@
 -- What is known of a pool.
-use Rattle.std.specs.Prelude.{◌≡◌, ℕ, ◌+◌, ◌≤◌, Option, map, length}
+use Rattle.std.specs.Prelude.{◌≡◌, ℕ, Option, map, length}
+use Rattle.pm_supervisor.specs.Limits.{IsWithinLimits}
 use Rattle.atomic_table.specs.Seated.{TableId}
 use Rattle.pm_spawn.specs.Works.{work_of}
 use Rattle.pm_serve_pool.specs.{declared.{plan.Terms.Terms, pool.Pool.Pool}, Plan.slots_of, Works.{EachFrom, IsWorkOf}}
 
--- a plan for no more than this many sessions and background workers
+-- by these terms there are no more slots than a board may have
 abbrev pub IsWithin : {C : Type 0} → Terms C → Type 0
-IsWithin terms = terms.plan.max_connections + terms.plan.max_worker_processes ≤ 200
+IsWithin terms = IsWithinLimits terms.plan.limits
 
 -- The threads of a pool do the works of all slots of this board, one for each, over this store, which got this disk.
 pub record IsPool {R C L D B X : Type 0} {link : _} (gives : C → ℕ → Type 0) (board home : TableId) (first : Option D) (pool : Pool R C L D B X link) : Type 0 where

@@ -3,7 +3,7 @@ use Rattle.std.specs.{Prelude.{◌≡◌, ℕ, ◌+◌, List, [], ◌∷◌, ◌
 use Rattle.atomic_table.specs.Seated.{TableId}
 use Rattle.pm_worker.specs.{pm_board.{Models.PostModel, Rule.idle_post}, pm_query.declared.book.BookEntry.TheVariants.Opened, declared.{child.Child.Child, mail.MailTold.MailTold, tools.Tools.Tools}}
 use Rattle.pm_store_shared.specs.{declared.{views.Joined.Joined, token_store.TokenStore.TokenStore}, Log.noted, Told.{SharedModel, TokenModel, shared_with}}
-use Rattle.pm_serve_pool.specs.declared.plan.Terms.{Terms}
+use Rattle.pm_serve_pool.specs.{declared.plan.Terms.Terms, Plan.sessions_of}
 
 -- so it is of each, of which the first has this number
 abbrev pub EachFrom : {A : Type 0} → (ℕ → A → Type 0) → ℕ → List A → Type 0
@@ -12,7 +12,7 @@ EachFrom P first xs = (i : ℕ) (x : _) → slice_get xs i ≡ Some x → P (fir
 -- The work of the slot k, before its start: an idle post of this board and of that slot, a token of this store with that number
 -- that has noted nothing, and tools by these terms, with a clock that gives no other moments. The store got this disk.
 pub record IsNewWork {R C F : Type 0} (gives : C → ℕ → Type 0) (terms : Terms C) (board home : TableId) (first : Option F) (k : ℕ) (tools : Tools R C) (post : PostModel MailTold) (token : TokenModel F) : Type 0 where
-  pub post_is : post ≡ record { table = board; slot = k; knows = idle_post terms.plan.max_connections }
+  pub post_is : post ≡ record { table = board; slot = k; knows = idle_post (sessions_of terms.plan.limits) }
   pub home_is : token.table ≡ home
   pub disk : token.first ≡ first
   pub number : token.number ≡ k

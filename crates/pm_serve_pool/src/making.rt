@@ -1,8 +1,9 @@
 //! A pool is made.
 ghost use Rattle.std.specs.Prelude.{◌≡◌, ◌+◌, ◌≤◌, ℕ, [], All, Some, IfErr, IfOk, IfSome, length, vec_len};
 ghost use Rattle.pm_board.specs.{Models.AreNewPosts, Told.new_roster};
+ghost use Rattle.pm_supervisor.specs.Limits.{IsWithinLimits};
 ghost use Rattle.pm_store_shared.specs.{pm_disk.Cause.Rose, Told.{AreNewTokens, IsNewShared}};
-ghost use Rattle.pm_serve_pool.specs.{declared.pool.NoPool.TheVariants.NoThread, Given.{IsGivenBack, IsOpenedAlone}, Plan.slots_of, Pools.{IsPool, IsWithin}, Works.{EachFrom, IsWorkOf}};
+ghost use Rattle.pm_serve_pool.specs.{declared.pool.NoPool.TheVariants.NoThread, Given.{IsGivenBack, IsOpenedAlone}, Plan.{sessions_of, slots_of}, Pools.{IsPool, IsWithin}, Works.{EachFrom, IsWorkOf}};
 
 use crate::closing::close_all;
 use crate::plan::{CHECKPOINTER_SLOT, Plan, Terms, WRITER_SLOT};
@@ -38,7 +39,7 @@ fn fill<
     shared: &Shared<D, B>,
     tokens: Tokens<D, B>,
 ) -> (Roster<Mail<L>>, VecDeque<Worker<R, C, L, D, B>>)
-    requires posts { AreNewPosts (slots_of terms.now.plan) terms.now.plan.max_connections
+    requires posts { AreNewPosts (slots_of terms.now.plan) (sessions_of terms.now.plan.limits)
         stock.roster.table stock.posts.items }
     requires clocks { (vec_len stock.clocks ≡ slots_of terms.now.plan)
         × All (λ clock. (moment : ℕ) → C.gives clock moment
@@ -94,7 +95,7 @@ fn start<
     works: VecDeque<Worker<R, C, L, D, B>>,
 ) -> Result<Made<R, C, L, D, B>, Unmade<D, B>>
     requires within { IsWithin terms }
-    requires roster { roster.knows ≡ new_roster (slots_of terms.plan) terms.plan.max_connections
+    requires roster { roster.knows ≡ new_roster (slots_of terms.plan) (sessions_of terms.plan.limits)
         (slots_of terms.plan) }
     requires shared { (first : D) × IsNewShared (slots_of terms.plan) first shared }
     requires count { length works.items ≡ slots_of terms.plan }
@@ -148,10 +149,10 @@ pub fn make<
     disk: D,
     book: B,
 ) -> Result<Made<R, C, L, D, B>, Unmade<D, B>>
-    requires within { plan.now.max_connections + plan.now.max_worker_processes ≤ 200 }
+    requires within { IsWithinLimits plan.now.limits }
     requires empty { IfSome (B.entries book) (λ entries. entries ≡ []) }
     ensures roster { IfOk result (λ made. made.roster.knows ≡ new_roster (slots_of plan.now)
-        plan.now.max_connections (slots_of plan.now)) }
+        (sessions_of plan.now.limits) (slots_of plan.now)) }
     ensures shared { IfOk result (λ made. IsNewShared (slots_of plan.now) disk made.shared) }
     ensures pool { IfOk result (λ made. IsPool C.gives made.roster.table made.shared.table
         made.shared.first made.pool) }

@@ -1,8 +1,11 @@
 //! What a pool is made by.
 ghost use Rattle.std.specs.Prelude.{◌≡◌, ◌+◌, ◌*◌, ◌≤◌};
-ghost use Rattle.pm_serve_pool.specs.Plan.{slots_of};
+ghost use Rattle.pm_supervisor.specs.Limits.{IsWithinLimits};
+ghost use Rattle.pm_serve_pool.specs.Plan.{sessions_of, slots_of};
 
+use pm_board::SessionLimit;
 use pm_session::SessionConf;
+use pm_supervisor::Limits;
 use std::snapshot::Snapshot;
 
 /// The slot of the checkpointer.
@@ -17,10 +20,8 @@ pub const AUXILIARY_SLOTS: u32 = 3;
 /// What a pool is made by.
 #[derive(Clone, Copy, Debug, PartialEq, Eq)]
 pub struct Plan {
-    /// The number of sessions that may be attached at once (`max_connections`).
-    pub max_connections: u32,
-    /// The number of background workers (`max_worker_processes`).
-    pub max_worker_processes: u32,
+    /// How many sessions may be attached at once, how many of these places are reserved, and how many background workers there are.
+    pub limits: Limits,
     pub conf: SessionConf,
     /// That of the cancel keys.
     pub seed: [u8; 32],
@@ -40,10 +41,20 @@ pub fn board_slots(serving: u32) -> u32
 impl Plan {
     /// How many slots its board has.
     pub fn slots(&self) -> u32
-        requires { self.now.max_connections + self.now.max_worker_processes ≤ 200 }
+        requires { IsWithinLimits self.now.limits }
         ensures { result ≡ slots_of self.now }
     {
-        board_slots(self.max_connections + self.max_worker_processes)
+        board_slots(self.limits.max_connections + self.limits.max_worker_processes)
+    }
+
+    /// How many sessions its board lets be attached.
+    pub(crate) fn sessions(&self) -> SessionLimit
+        ensures { result ≡ sessions_of self.now.limits }
+    {
+        SessionLimit {
+            most: self.limits.max_connections,
+            reserved: self.limits.reserved,
+        }
     }
 }
 

@@ -1,7 +1,8 @@
 //! What a pool takes of memory before it shares its store.
 ghost use Rattle.std.specs.Prelude.{◌≡◌, ◌+◌, ◌≤◌, ℕ, [], All, IfOk, length, vec_len};
 ghost use Rattle.pm_board.specs.{Told.new_roster, Models.AreNewPosts};
-ghost use Rattle.pm_serve_pool.specs.Plan.{slots_of};
+ghost use Rattle.pm_supervisor.specs.Limits.{IsWithinLimits};
+ghost use Rattle.pm_serve_pool.specs.Plan.{sessions_of, slots_of};
 
 use crate::plan::Plan;
 use crate::pool::Worker;
@@ -43,11 +44,11 @@ impl<
         clock: &C,
         plan: &Plan,
     ) -> Result<Stock<R, C, L, D, B>, AllocError>
-        requires { plan.now.max_connections + plan.now.max_worker_processes ≤ 200 }
+        requires { IsWithinLimits plan.now.limits }
         ensures roster { IfOk result (λ stock. stock.roster.knows ≡ new_roster (slots_of plan.now)
-            plan.now.max_connections (slots_of plan.now)) }
+            (sessions_of plan.now.limits) (slots_of plan.now)) }
         ensures posts { IfOk result (λ stock. AreNewPosts (slots_of plan.now)
-            plan.now.max_connections stock.roster.table stock.posts.items) }
+            (sessions_of plan.now.limits) stock.roster.table stock.posts.items) }
         ensures clocks { IfOk result (λ stock. (vec_len stock.clocks ≡ slots_of plan.now)
             × All (λ clock'. (moment : ℕ) → C.gives clock' moment → C.gives clock.now moment)
             stock.clocks.items) }
@@ -56,7 +57,7 @@ impl<
             × (slots_of plan.now ≤ stock.works.cap)) }
     {
         let slots = plan.slots();
-        let (roster, posts) = Board::new(alloc, slots, plan.max_connections)?;
+        let (roster, posts) = Board::new(alloc, slots, plan.sessions())?;
         Ok(Stock {
             roster,
             posts: listed(alloc, posts)?,

@@ -1,6 +1,7 @@
 //! A whole run of a server of many connections, with what a user counts on.
 
 ghost use Rattle.std.specs.Prelude.{◌≡◌, ◌≤◌, ◌+◌, [], IfSome, option_map};
+ghost use Rattle.pm_state.specs.pm_supervisor.Limits.{IsWithinLimits};
 ghost use Rattle.pm_postmaster.specs.{pm_outside.Visits.no_visits, Outside.serve_view};
 ghost use Rattle.pm_serve_promises.specs.PromisedServe.{IsPromisedServe};
 
@@ -38,7 +39,7 @@ where
     J: Chronicle<PmEvent>,
     B: Chronicle<BookEntry> + Drop + Send + 'static,
     requires some { 1 ≤ conf.now.limits.max_connections + conf.now.limits.max_worker_processes }
-    requires within { conf.now.limits.max_connections + conf.now.limits.max_worker_processes ≤ 200 }
+    requires within { IsWithinLimits conf.now.limits }
     requires journal { IfSome (J.entries outside.journal) (λ entries. entries ≡ []) }
     requires book { IfSome (B.entries outside.book) (λ entries. entries ≡ []) }
     requires port { IfSome (P.visits outside.port) (λ visits. visits ≡ no_visits) }

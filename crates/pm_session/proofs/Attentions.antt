@@ -1,6 +1,7 @@
 -- Signals that a child took and was given, from one moment to the next.
-use Rattle.std.{proofs.Common.{◌≡◌, ℕ, List, Option, None, Some, IfSome, Result, refl, ◌∙◌, ap}, specs.Option.option_map}
-use Rattle.pm_child_life.specs.{declared.life.GateNo.GateNo, Life.{Told, Signal, nothing_told, met_at_gate, IsUntried, HasNoCancel}, Attention.{was_given, HasAsked, KeepsCancels, GivenSince}}
+use Rattle.std.{proofs.Common.{◌≡◌, ℕ, Bool, List, Option, None, Some, IfSome, Result, refl, sym, ◌∙◌, ap, subst, arith}, specs.Option.option_map}
+use Rattle.pm_child_life.specs.{declared.life.{Attempt.Attempt, GateNo.GateNo}, Life.{Told, Signal, nothing_told, attempt, met_at_gate, IsUntried, HasNoCancel}, Attention.{was_given, HasAsked, KeepsCancels, GivenSince}}
+use Rattle.pm_session.specs.Entry.{HasComeAs}
 
 pub since_given : (m : ℕ) (signal : Signal) (a b : Option Told) → HasAsked m a b → GivenSince signal a b → was_given signal b
 since_given m signal None b asked since = let e : b ≡ None = asked in rw e tt
@@ -31,6 +32,29 @@ untried_still m (Some before) None asked untried = absurd asked
 untried_still m (Some before) (Some now) asked untried = asked.1 ∙ untried
 
 -- what the gate answers changes nothing of which cancels were asked for
-pub cancels_at_gate : (answer : Result ℕ GateNo) (before now : Option Told) → now ≡ option_map (met_at_gate answer) before → KeepsCancels before now
-cancels_at_gate answer None now e = e
-cancels_at_gate answer (Some told) now e = rw e refl
+pub cancels_at_gate : (tried : Attempt) (before now : Option Told) → now ≡ option_map (met_at_gate tried) before → KeepsCancels before now
+cancels_at_gate tried None now e = e
+cancels_at_gate tried (Some told) now e = rw e refl
+
+-- ---- at the gate
+
+-- over two spans it was there no more
+pub asked_on : (m n : ℕ) (a b c : Option Told) → HasAsked m a b → HasAsked n b c → HasAsked 0 a c
+asked_on m n None b c one two = subst (λ (o : Option Told). HasAsked n o c) one two
+asked_on m n (Some a) None c one two = absurd one
+asked_on m n (Some a) (Some b) None one two = absurd two
+asked_on m n (Some a) (Some b) (Some c) one two = (omega (arith, one.0, two.0), two.1 ∙ one.1)
+
+-- as whom it came there
+pub come_now : (is_ordinary : Bool) (answer : Result ℕ GateNo) (before now : Option Told) → now ≡ option_map (met_at_gate (attempt is_ordinary answer)) before → HasComeAs is_ordinary now
+come_now is_ordinary answer None now e = rw e tt
+come_now is_ordinary answer (Some before) now e = rw e refl
+
+pub come_still : (m : ℕ) (is_ordinary : Bool) (before now : Option Told) → HasAsked m before now → HasComeAs is_ordinary before → HasComeAs is_ordinary now
+come_still m is_ordinary None now asked come = let e : now ≡ None = asked in rw e tt
+come_still m is_ordinary (Some before) None asked come = absurd asked
+come_still m is_ordinary (Some before) (Some now) asked come = subst (λ (met : Option Attempt). IfSome met (λ tried. tried.is_ordinary ≡ is_ordinary)) (sym asked.1) come
+
+pub come_untried : (is_ordinary : Bool) (told : Option Told) → IsUntried told → HasComeAs is_ordinary told
+come_untried is_ordinary None untried = tt
+come_untried is_ordinary (Some told) untried = subst (λ (met : Option Attempt). IfSome met (λ tried. tried.is_ordinary ≡ is_ordinary)) (sym untried) tt

@@ -1,6 +1,6 @@
 -- Which queries of what came in have an answer.
-use Rattle.std.{proofs.{Common.{◌≡◌, ◌≢◌, ◌⊎◌, inl, inr, ℕ, ◌+◌, ◌<◌, ◌≤◌, List, [], ◌∷◌, ◌++◌, length, get_or, None, Some, Result, Ok, Err, refl, sym, ◌∙◌, ap, subst, arith, append_assoc, length-append}, lemmas.List.{append_cancel_left, append-nil, take_all, Concat.flat_map-cons}}, specs.List.{flat_map, Contains}}
-use Rattle.pm_session_exchange.specs.{pm_outside.{pm_disk.Cause.Rose, Traffic.Traffic}, pm_child_life.Life.{Told, Signal, Cancel}, declared.ending.{MessageFault.TheVariants.{BadLength, BadForm, LongQuery, Extended, UnknownType}, Cause.{Cause, TheVariants.{Terminated, Cancelling, LinkEnded, LinkFailed, TimedOut, PacketRefused, MessageRefused, DecisionRefused, GateRefused, ShortOfMemory, Panicked, ToldToTerminate, ToldToQuit, Killed, Overtaken}}, Stage.{Stage, TheVariants.{Outside, Entering, Greeted}}}, Sent.{Turn, Ran, Faulted, NotUtf8, Cancelled, LogIsFull, Memory}, Queries.{IsCancelledTurn, TurnNotes}}
+use Rattle.std.{proofs.{Common.{◌≡◌, ◌≢◌, ◌⊎◌, inl, inr, ℕ, ◌+◌, ◌<◌, ◌≤◌, List, [], ◌∷◌, ◌++◌, length, get_or, Option, None, Some, Result, Ok, Err, refl, sym, ◌∙◌, ap, subst, arith, append_assoc, length-append}, lemmas.List.{append_cancel_left, append-nil, take_all, Concat.flat_map-cons}}, specs.{List.{flat_map, Contains}, Option.option_map}}
+use Rattle.pm_session_exchange.specs.{pm_outside.{pm_disk.Cause.Rose, Traffic.Traffic}, pm_child_life.{declared.life.Attempt.Attempt, Life.{Told, Signal, Cancel, answer_met}}, declared.ending.{MessageFault.TheVariants.{BadLength, BadForm, LongQuery, Extended, UnknownType}, Cause.{Cause, TheVariants.{Terminated, Cancelling, LinkEnded, LinkFailed, TimedOut, PacketRefused, MessageRefused, DecisionRefused, GateRefused, ShortOfMemory, Panicked, ToldToTerminate, ToldToQuit, Killed, Overtaken}}, Stage.{Stage, TheVariants.{Outside, Entering, Greeted}}}, Sent.{Turn, Ran, Faulted, NotUtf8, Cancelled, LogIsFull, Memory}, Queries.{IsCancelledTurn, TurnNotes}}
 use Rattle.pm_admit.specs.declared.Cac.{Cac}
 use Rattle.pm_startup.specs.{declared.{packet.StartFault.StartFault, phase.Phase.Phase}, Grammar.{Content, startup, ssl_request, gssenc_request, cancel_request, Decides, IsUndecided as IsNoPacketYet}, Phases.step_of, pm_wire.{Pieces.{int32, string}, Numbers.number_again, Stream.StandApart, Frontend.{FrontMessage, Query, BadQuery, LongQuery as IsLongQuery, Terminate, Extended as IsExtended, Other, IsFront, IsBadHeader}}}
 use Rattle.pm_startup.specs.declared.phase.Step.TheVariants as steps
@@ -178,7 +178,7 @@ refused_not phase ssl_request user fault is says = cc
 refused_not phase gssenc_request user fault is says = cc
 refused_not phase (cancel_request pid key) user fault is says = cc
 
-away : PrefixFree → (user : User) (cause : Cause) (phase : Phase) (last : List ℕ) (decision : Cac) (traffic : Traffic) (failed : Type 0) (told : Told) (generation limit : ℕ) (gives : ℕ → Type 0) → ¬ failed → told.given ≡ [] → told.met ≡ Some (Ok generation)
+away : PrefixFree → (user : User) (cause : Cause) (phase : Phase) (last : List ℕ) (decision : Cac) (traffic : Traffic) (failed : Type 0) (told : Told) (generation limit : ℕ) (gives : ℕ → Type 0) → ¬ failed → told.given ≡ [] → answer_met told ≡ Some (Ok generation)
     → CausedBy cause decision (Some traffic) failed (Some told) limit gives → IsAdmitted Entering decision → TurnsAway user Entering phase cause last → IsStart last → EndsForStore cause
 away free user Terminated phase last decision traffic failed told generation limit gives sound none met caused admitted stops start = absurd stops
 away free user Cancelling phase last decision traffic failed told generation limit gives sound none met caused admitted stops start =
@@ -207,9 +207,9 @@ away free user Killed phase last decision traffic failed told generation limit g
 away free user Overtaken phase last decision traffic failed told generation limit gives sound none met caused admitted stops start = tt
 
 away_at : PrefixFree → (user : User) (stage : Stage) (exit cause : Cause) (phase : Phase) (last : List ℕ) (noted : List BookEntry) (decision : Cac) (traffic : Traffic) (failed : Type 0) (told : Told) (generation limit : ℕ) (gives : ℕ → Type 0) → ¬ failed → told.given ≡ []
-    → told.met ≡ Some (Ok generation) → CausedBy cause decision (Some traffic) failed (Some told) limit gives → StaysOut stage cause (Some told) → IsAdmitted stage decision → TurnsAway user stage phase cause last → IsBehindStart stage last → NotesOutside user stage exit noted
+    → answer_met told ≡ Some (Ok generation) → CausedBy cause decision (Some traffic) failed (Some told) limit gives → StaysOut stage cause (Some told) → IsAdmitted stage decision → TurnsAway user stage phase cause last → IsBehindStart stage last → NotesOutside user stage exit noted
     → EndsForStore cause
-away_at free user Outside exit cause phase last noted decision traffic failed told generation limit gives sound none met caused (inl untried) admitted stops start notes = absurd (let e : Some (Ok generation) ≡ None = sym met ∙ untried in cc)
+away_at free user Outside exit cause phase last noted decision traffic failed told generation limit gives sound none met caused (inl untried) admitted stops start notes = absurd (let e : Some (Ok generation) ≡ None = sym met ∙ ap (λ (tried : Option Attempt). option_map (λ (t : Attempt). t.answer) tried) untried in cc)
 away_at free user Outside exit cause phase last noted decision traffic failed told generation limit gives sound none met caused (inr (refusal, is, other)) admitted stops start notes = absurd (let e : Some (Ok generation) ≡ Some (Err refusal) = sym met ∙ other in cc)
 away_at free user Entering exit cause phase last noted decision traffic failed told generation limit gives sound none met caused out admitted stops start notes =
     away free user cause phase last decision traffic failed told generation limit gives sound none met caused admitted stops start

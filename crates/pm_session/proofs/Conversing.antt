@@ -139,6 +139,58 @@ conversed_then notes gives user cause before between now in_turn one two = recor
   cancelled = cancelled_then (length two.turns) one.turns two.turns between.child now.child two.hears one.cancelled two.cancelled;
 }
 
+-- calls of the child's life stand before it
+conversing_behind : {S : Type 0} (notes : List BookEntry → S → S → Type 0) (gives : ℕ → Type 0) (user : User) (link : LinkView) (unread : List ℕ) (start before : S) (child : Attention) (now : Moment S) → GoesInTurn notes → notes [] start before
+    → Conversing notes gives user (moment link unread before child) now → Conversing notes gives user (moment link unread start child) now
+conversing_behind notes gives user link unread start before child now in_turn rests one = record {
+  texts = one.texts;
+  turns = one.turns;
+  asked = one.asked;
+  came = one.came;
+  each = one.each;
+  input = one.input;
+  passes = one.passes;
+  entries = in_turn start before now.store [] one.asked rests one.entries;
+  hears = one.hears;
+  read = one.read;
+  slept = one.slept;
+  heeded = one.heeded;
+  cancelled = one.cancelled;
+}
+
+conversed_behind : {S : Type 0} (notes : List BookEntry → S → S → Type 0) (gives : ℕ → Type 0) (user : User) (cause : Cause) (link : LinkView) (unread : List ℕ) (start before : S) (child : Attention) (now : Moment S) → GoesInTurn notes → notes [] start before
+    → Conversed notes gives user cause (moment link unread before child) now → Conversed notes gives user cause (moment link unread start child) now
+conversed_behind notes gives user cause link unread start before child now in_turn rests one = record {
+  texts = one.texts;
+  turns = one.turns;
+  last = one.last;
+  asked = one.asked;
+  ended = one.ended;
+  came = one.came;
+  went = one.went;
+  missing = one.missing;
+  each = one.each;
+  ends = one.ends;
+  input = one.input;
+  passes_over = one.passes_over;
+  output = one.output;
+  cut = one.cut;
+  passes = one.passes;
+  entries = in_turn start before now.store [] (one.asked ++ one.ended) rests one.entries;
+  hears = one.hears;
+  read = one.read;
+  slept = one.slept;
+  heeded = one.heeded;
+  cancelled = one.cancelled;
+}
+
+pub converses_behind : {S : Type 0} (notes : List BookEntry → S → S → Type 0) (gives : ℕ → Type 0) (who user : User) (result : Result (Unit {0}) Cause) (link : LinkView) (unread : List ℕ) (start before : S) (child : Attention) (now : Moment S) → GoesInTurn notes → who ≡ user → notes [] start before
+    → Converses notes gives who result (moment link unread before child) now → Converses notes gives user result (moment link unread start child) now
+converses_behind notes gives who user (Ok done) link unread start before child now in_turn same rests one =
+    conversing_behind notes gives user link unread start before child now in_turn rests (conversing_as notes gives who user (moment link unread before child) now same one)
+converses_behind notes gives who user (Err cause) link unread start before child now in_turn same rests one =
+    conversed_behind notes gives user cause link unread start before child now in_turn rests (conversed_as notes gives who user cause (moment link unread before child) now same one)
+
 -- ---- one message
 
 -- no message stands at the front of nothing

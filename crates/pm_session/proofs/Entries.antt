@@ -5,7 +5,7 @@ use Rattle.pm_startup.specs.declared.packet.StartFault.TheVariants as packets
 use Rattle.pm_startup.specs.declared.phase.Step.TheVariants as steps
 use Rattle.pm_session_exchange.{specs.{declared.ending.Cause.{Cause, TheVariants.{Terminated, Cancelling, LinkEnded, LinkFailed, TimedOut, PacketRefused, MessageRefused, DecisionRefused, GateRefused, ShortOfMemory, Panicked, ToldToTerminate, ToldToQuit, Killed, Overtaken}}, pm_outside.{Traffic.{Traffic, came_in_of}, Added.Added}, Exchange.{LinkView, Passes, CutsOff, Holds, HoldsLooking, IsWaiting, Looks, Sends, Receives, ReceivesNothing}, Moments.{IsBreak, Moment, ShowsCause, outside, Attends}}, proofs.{MomentLaws.{attends_of, attends_none, shows_since}, LinkLaws.{passes_none, passes_both, sound_left}}}
 use Rattle.pm_child_life.{specs.{Life.Told, Attention.{Attention, Hears, KeepsCancels}}, proofs.AttentionLaws.{hears_none, hears_both, hears_fewer, asked_then, cancels_none}}
-use Rattle.pm_session.{specs.{Session.{AskInTurn, IsApart, StopsAt, MayPassOver, first_phase}, Entry.{Asked, GoesOn, AsksToCancel, Enters}}, proofs.{Links.{passes_no_more, holds_then, holds_still}}}
+use Rattle.pm_session.{specs.{Session.{AskInTurn, IsApart, StopsAt, MayPassOver, first_phase}, Entry.{Asked, GoesOn, AsksToCancel, Enters}}, proofs.{Links.{passes_no_more, holds_up_to}}}
 
 -- ---- what a step means
 
@@ -182,7 +182,7 @@ stopped gives limit cause phase last beyond missing before now goes = elim (stop
 ]
 
 -- the packet at the front decides
-pub enters_by : (gives : ℕ → Type 0) (limit : ℕ) (result : Result (Unit {0}) Cause) (phase : Phase) (used : ℕ) (link0 link1 : LinkView) (unread0 unread1 unread2 : List ℕ) (at0 at1 at2 : Attention) → Asked phase (outside link0 unread0 at0) (outside link1 unread1 at1)
+pub enters_by : (gives : ℕ → Type 0) (limit : ℕ) (result : Result Bool Cause) (phase : Phase) (used : ℕ) (link0 link1 : LinkView) (unread0 unread1 unread2 : List ℕ) (at0 at1 at2 : Attention) → Asked phase (outside link0 unread0 at0) (outside link1 unread1 at1)
     → GoesOn gives limit result phase (take used unread1) (drop used unread1) [] (outside link0 unread0 at0) (outside link1 unread2 at2) → Attends at1 at2 → AsksToCancel result (take used unread1) at1.told at2.told
     → Enters gives limit result (outside link0 unread0 at0) (outside link1 unread2 at2)
 enters_by gives limit result phase used link0 link1 unread0 unread1 unread2 at0 at1 at2 asked goes attends cancels = record {
@@ -202,7 +202,7 @@ enters_by gives limit result phase used link0 link1 unread0 unread1 unread2 at0 
   hears = asked.hears;
   attends = attends_then at0 at1 at2 (attends_of at0 at1 asked.hears) attends;
   cancels = cancels;
-  holds = holds_then false result link0 link1 link1 asked.holds (holds_still false result link1);
+  holds = holds_up_to result link0 link1 asked.holds;
 }
 
 stops_by : (phase : Phase) (cause : Cause) (last : List ℕ) → IsBreak cause → IsUndecided last → StopsAt phase cause last × MayPassOver cause []

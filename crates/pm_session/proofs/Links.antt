@@ -1,6 +1,6 @@
 -- What passed on a link, from one moment to the next.
 use Rattle.std.proofs.{Common.{◌≡◌, ℕ, Bool, false, List, [], ◌++◌, Option, None, Some, Result, Ok, Err, refl, sym, ◌∙◌, ap, subst}, lemmas.List.append-nil}
-use Rattle.pm_session_exchange.{specs.{declared.ending.Cause.Cause, pm_outside.Traffic.{Traffic, IsFresh}, Exchange.{LinkView, Passes, Holds, IsSound, Sends}}, proofs.LinkLaws.{passes_both, sound_left}}
+use Rattle.pm_session_exchange.{specs.{declared.ending.Cause.Cause, pm_outside.Traffic.{Traffic, IsFresh}, Exchange.{LinkView, Passes, Holds, HoldsLooking, IsSound, Sends}}, proofs.LinkLaws.{passes_both, sound_left}}
 
 -- ---- one write
 
@@ -27,7 +27,7 @@ pub holds_then : (ended : Bool) (result : Result (Unit {0}) Cause) (a b c : Link
 holds_then ended (Ok done) a b c one two = λ sound. two (one sound)
 holds_then ended (Err cause) a b c one two = λ sound. two (one sound)
 
--- where no call is made
-pub holds_still : (ended : Bool) (result : Result (Unit {0}) Cause) (at : LinkView) → Holds ended result at at
-holds_still ended (Ok done) at = λ sound. sound
-holds_still ended (Err cause) at = λ sound. sound_left ended cause at.traffic sound
+-- it goes on so up to a startup packet, or nothing follows
+pub holds_up_to : (result : Result Bool Cause) (before now : LinkView) → (IsSound false before.traffic → IsSound false now.traffic) → HoldsLooking result before now
+holds_up_to (Ok word) before now sound_on = sound_on
+holds_up_to (Err cause) before now sound_on = λ sound. sound_left false cause now.traffic (sound_on sound)

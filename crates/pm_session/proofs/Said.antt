@@ -6,7 +6,7 @@ use Rattle.pm_wire.specs.declared.state.SqlState.TheVariants as states
 use lib.Signed.{mag}
 use Rattle.std.proofs.lemmas.Int.{ints}
 use Rattle.pm_wire.specs.{Longest.{longest, HasSizes}, Short.short_pair, Backend.{BackMessage, Pair, IsWritable, spelling}}
-use Rattle.pm_session_exchange.{specs.{declared.ending.Cause.{Cause, TheVariants.{Terminated, Cancelling, LinkEnded, LinkFailed, TimedOut, PacketRefused, MessageRefused, DecisionRefused, GateRefused, ShortOfMemory, Panicked, ToldToTerminate, ToldToQuit, Killed, Overtaken}}, Exchange.{LinkView, Sends, Holds}, Moments.{ShowsCause, IsBreak}, Sent.{bytes_of, item_messages}}, proofs.{LinkLaws.{passes_none, passes_both}, MomentLaws.shows_since, SentLaws.{bytes_of-append, bytes_of-none}}}
+use Rattle.pm_session_exchange.{specs.{declared.ending.Cause.{Cause}, Exchange.{LinkView, Sends, Holds}, Moments.{ShowsCause, IsBreak}, Sent.{bytes_of, item_messages}}, proofs.{LinkLaws.{passes_none, passes_both}, MomentLaws.shows_since, SentLaws.{bytes_of-append, bytes_of-none}}}
 use Rattle.pm_child_life.{specs.Attention.{Attention, Hears}, proofs.AttentionLaws.{hears_none, hears_both}}
 use Rattle.pm_session.{specs.Turns.{Desk, desk, Says}, proofs.Links.holds_then}
 

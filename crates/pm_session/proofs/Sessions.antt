@@ -2,13 +2,14 @@
 use Rattle.std.{proofs.{Common.{◌≡◌, ◌≢◌, ◌⊎◌, inl, inr, ℕ, ◌+◌, ◌≤◌, Bool, true, false, List, [], ◌∷◌, ◌++◌, length, map, Option, None, Some, IfSome, Result, Ok, Err, refl, sym, ◌∙◌, ap, subst, arith, append_assoc}, lemmas.List.{append-nil, Elements.Contains-append_right}}, specs.{List.{flat_map, Contains}, Option.option_map}}
 use Rattle.pm_session_exchange.{specs.{pm_outside.{Traffic.{Traffic, IsFresh, came_in_of, went_out_of}, Added.Added}, pm_exit.declared.child.Status.Status, pm_query.{declared.{book.BookEntry.{BookEntry, TheVariants.Attached}, store.StoreNo.StoreNo}, Calls.{User, PassView, user_of, newcomer, new_pass, EnterNotes}}, declared.ending.{Cause.{Cause, TheVariants.{Terminated, Cancelling, LinkEnded, LinkFailed, TimedOut, PacketRefused, MessageRefused, DecisionRefused, GateRefused, ShortOfMemory, Panicked, ToldToTerminate, ToldToQuit, Killed, Overtaken}}, Stage.{Stage, TheVariants.{Outside, Entering, Greeted}}}, Exchange.{LinkView, HasEnded, Passes, HasFailed, CutsOff, Sends, Holds, IsSound, IsLeftFor}, Attention.ends_of, Sent.{Turn, bytes_of, greeting, last_of}, Ends.{LetsGo, status_by}, Queries.IsCancelledTurn, Moments.{Moment, moment, ShowsCause, IsBreak, outside}, Answers.IsOvertakenBy}, proofs.{LinkLaws.{passes_both, sound_left}, MomentLaws.shows_since, SentLaws.{bytes_of-append, bytes_of-none}}}
 use Rattle.pm_admit.specs.declared.Cac.{Cac}
+use Rattle.pm_query.proofs.NotedLaws.{GoesInTurn, noted_still}
 use Rattle.pm_admit.specs.declared.Cac.TheVariants as decisions
 use Rattle.pm_session_exchange.specs.pm_exit.declared.child.Status.TheVariants as statuses
 use Rattle.pm_startup.specs.{declared.phase.Phase.Phase, pm_wire.Backend.BackMessage, Grammar.{cancel_request, Decides}}
 use Rattle.pm_session_exchange.specs.pm_query.declared.store.StoreNo.TheVariants as nos
 use Rattle.pm_session_exchange.specs.pm_query.declared.store.Store as Store
-use Rattle.pm_child_life.{specs.{Life.{Child, Told, Signal, Kill, Quit, Terminate as ToTerminate, Cancel, nothing_told, met_at_gate, asked_cancel, IsUntried, HasNoCancel}, declared.life.GateNo.GateNo, Attention.{Attention, HasAsked, Hears, IsAttentive, KeepsCancels, was_given}}, proofs.AttentionLaws.{hears_both, hears_fewer, cancels_then}}
-use Rattle.pm_session.{specs.{Session.{Ending, Heeds, HasAskedFor, CausedBy, IsCaused, HasEntered, IsAdmitted, IsSession, between, HasPassed, AskInTurn, IsStart, StopsAt, EndsAt, AllNotes, AllSleep, HasSlept, MayPassOver, NotesOutside, Leaves, ByStage, IsBehindStart, IsInside, StaysOut, AsksCancel, HasCancelled, first_phase, pieces, query_bytes, last_messages, status_of, TurnsAway, IsAttachedBehind}, Conversation.Conversed, declared.session.Admission.Admission, Entry.{ClosesBy, Connected, Enters, GoesOn, AsksToCancel, IsTold, EndsBy, Closes, Serves, IsTextBehind, IsTextInside, CanRefuseEntry, refusal_cause}, Heeding.{TurnsHeed, HeedInTurn, AllRead}}, proofs.{Attentions.{untried_still, new_untried, new_no_cancel, cancels_still, HasCancels}, Heeding.{heed_none, heed_all, heed_later, heed_earlier}, Links.fresh_sound, Closings.{told_status, told_still, told_now}, Conversing.nothing_yet, Entries.{WasRead, enters_not, no_packet_yet, stopped, stops_by_time}, Overtaking.ending_overtaken}}
+use Rattle.pm_child_life.{specs.{Life.{Child, Told, Signal, Kill, Quit, Terminate as ToTerminate, Cancel, nothing_told, answer_met, attempt, met_at_gate, asked_cancel, IsUntried, HasNoCancel}, declared.life.{Attempt.Attempt, GateNo.GateNo}, Attention.{Attention, HasAsked, Hears, IsAttentive, KeepsCancels, was_given}}, proofs.AttentionLaws.{hears_both, hears_fewer, cancels_then}}
+use Rattle.pm_session.{specs.{Session.{Ending, Heeds, HasAskedFor, CausedBy, IsCaused, HasEntered, IsAdmitted, IsSession, between, HasPassed, AskInTurn, IsStart, IsStartOf, ComesAs, HasCome, StopsAt, EndsAt, AllNotes, AllSleep, HasSlept, MayPassOver, NotesOutside, Leaves, ByStage, IsBehindStart, IsInside, StaysOut, AsksCancel, HasCancelled, first_phase, pieces, query_bytes, last_messages, status_of, TurnsAway, IsAttachedBehind}, Conversation.Conversed, declared.session.Admission.Admission, Entry.{ClosesBy, Connected, Enters, GoesOn, AsksToCancel, HasComeAs, IsTold, EndsBy, Closes, Serves, IsTextBehind, IsTextInside, CanRefuseEntry, refusal_cause}, Heeding.{TurnsHeed, HeedInTurn, AllRead}}, proofs.{Attentions.{untried_still, new_untried, new_no_cancel, cancels_still, HasCancels}, Heeding.{heed_none, heed_all, heed_later, heed_earlier}, Links.fresh_sound, Closings.{told_status, told_still, told_now}, Conversing.nothing_yet, Entries.{WasRead, enters_not, no_packet_yet, stopped, stops_by_time}, Overtaking.ending_overtaken}}
 
 -- ---- two texts, one after the other
 
@@ -115,10 +116,10 @@ untried_out cause (Some told) untried = inl untried
 pub out_untried : (stage : Stage) (cause : Cause) (told : Option Told) → stage ≡ Outside → IsUntried told → StaysOut stage cause told
 out_untried stage cause told is untried = subst (λ (s : Stage). StaysOut s cause told) (sym is) (untried_out cause told untried)
 
-pub out_refused : (stage : Stage) (refusal : GateNo) (told : Option Told) → stage ≡ Outside → IfSome told (λ t. t.met ≡ Some (Err refusal)) → StaysOut stage (GateRefused refusal) told
+pub out_refused : (stage : Stage) (refusal : GateNo) (told : Option Told) → stage ≡ Outside → IfSome told (λ t. answer_met t ≡ Some (Err refusal)) → StaysOut stage (GateRefused refusal) told
 out_refused stage refusal told is met = subst (λ (s : Stage). StaysOut s (GateRefused refusal) told) (sym is) (refused told met)
   where
-    refused : (told : Option Told) → IfSome told (λ t. t.met ≡ Some (Err refusal)) → StaysOut Outside (GateRefused refusal) told
+    refused : (told : Option Told) → IfSome told (λ t. answer_met t ≡ Some (Err refusal)) → StaysOut Outside (GateRefused refusal) told
     refused None met = tt
     refused (Some told) met = inr (refusal, refl, met)
 
@@ -270,7 +271,7 @@ pub at_outside : (decision : Cac) (user : User) (ending : Ending) (generation : 
 at_outside decision user ending generation told is =
     subst (λ (s : Stage). IsAdmitted s decision × NotesOutside user s ending.exit [] × HasEntered s generation told) (sym is) (tt, refl, tt)
 
-pub at_entering : (decision : Cac) (user : User) (ending : Ending) (generation : ℕ) (told : Option Told) → ending.stage ≡ Entering → decision ≡ decisions.Ok → IfSome told (λ t. t.met ≡ Some (Ok generation)) → EndsUngreeted decision user ending generation told
+pub at_entering : (decision : Cac) (user : User) (ending : Ending) (generation : ℕ) (told : Option Told) → ending.stage ≡ Entering → decision ≡ decisions.Ok → IfSome told (λ t. answer_met t ≡ Some (Ok generation)) → EndsUngreeted decision user ending generation told
 at_entering decision user ending generation told is admitted met =
     subst (λ (s : Stage). IsAdmitted s decision × NotesOutside user s ending.exit [] × HasEntered s generation told) (sym is) (admitted, inl refl, met)
 
@@ -486,11 +487,11 @@ cut_since exit missing first second third later (inr (inl cuts)) = inr (inl cuts
 cut_since exit missing first second third later (inr (inr (inl cuts))) = inr (inl cuts)
 cut_since exit missing first second third later (inr (inr (inr failed))) = inr (inr (omega (arith, later, failed)))
 
-pub met_still : (times : ℕ) (answer : Result ℕ GateNo) (before now : Option Told) → HasAsked times before now → IfSome before (λ t. t.met ≡ Some answer) → IfSome now (λ t. t.met ≡ Some answer)
+pub met_still : (times : ℕ) (answer : Result ℕ GateNo) (before now : Option Told) → HasAsked times before now → IfSome before (λ t. answer_met t ≡ Some answer) → IfSome now (λ t. answer_met t ≡ Some answer)
 met_still times answer None None has met = tt
 met_still times answer None (Some now) has met = absurd cc
 met_still times answer (Some before) None has met = absurd has
-met_still times answer (Some before) (Some now) has met = has.1 ∙ met
+met_still times answer (Some before) (Some now) has met = ap (λ (tried : Option Attempt). option_map (λ (t : Attempt). t.answer) tried) has.1 ∙ met
 
 turn_in : (turns before : List Turn) (turn : Turn) (behind : List Turn) → turns ≡ before ++ turn ∷ behind → Contains turns turn
 turn_in turns before turn behind e = rw e (Contains-append_right before (turn ∷ behind) turn (0, omega arith, refl))
@@ -503,7 +504,7 @@ served_input front all queries last beyond last_now beyond_now is split =
     ap (λ (l : List ℕ). front ++ l) (is ∙ split_input queries last beyond last_now beyond_now split ∙ append_assoc queries last_now beyond_now) ∙ sym (append_assoc front queries (last_now ++ beyond_now)) ∙ sym (append_assoc (front ++ queries) last_now beyond_now)
 
 pub served_inside : {S : Type 0} (notes : List BookEntry → S → S → Type 0) (decision : Cac) (user : User) (key : ℕ) (gives : ℕ → Type 0) (cause : Cause) (ending : Ending) (link0 link1 link2 : LinkView) (unread0 unread1 : List ℕ) (store0 store1 : S) (at0 at1 at2 : Attention)
-    → decision ≡ decisions.Ok → IfSome at0.told (λ t. t.met ≡ Some (Ok user.generation)) → Talked notes gives user key cause (moment link0 unread0 store0 at0) (moment link1 unread1 store1 at1)
+    → decision ≡ decisions.Ok → IfSome at0.told (λ t. answer_met t ≡ Some (Ok user.generation)) → Talked notes gives user key cause (moment link0 unread0 store0 at0) (moment link1 unread1 store1 at1)
     → ending.stage ≡ Greeted → Closes decision cause ending (outside link1 [] at1) (outside link2 [] at2)
     → Serves notes (IsTextInside decision user key) decision user.generation gives ending (moment link0 unread0 store0 at0) (moment link2 unread1 store1 at2)
 served_inside notes decision user key gives cause ending link0 link1 link2 unread0 unread1 store0 store1 at0 at1 at2 admitted met talked stage closes =
@@ -655,6 +656,33 @@ user_is stamp0 stamp1 view pid child_pid generation new same stays =
 
 -- ---- the gate before it
 
+-- the same with calls of the child's life before it and after it
+pub served_among : {S : Type 0} (notes : List BookEntry → S → S → Type 0) (Text : Ending → List Turn → List ℕ → List ℕ → List BookEntry → Type 0) (decision : Cac) (generation : ℕ) (gives : ℕ → Type 0) (ending : Ending) (link0 link1 : LinkView) (unread0 unread1 : List ℕ) (store0 store1 store2 store3 : S) (at0 at1 : Attention)
+    → GoesInTurn notes → notes [] store0 store1 → Serves notes Text decision generation gives ending (moment link0 unread0 store1 at0) (moment link1 unread1 store2 at1) → notes [] store2 store3
+    → Serves notes Text decision generation gives ending (moment link0 unread0 store0 at0) (moment link1 unread1 store3 at1)
+served_among notes Text decision generation gives ending link0 link1 unread0 unread1 store0 store1 store2 store3 at0 at1 in_turn before serves behind = record {
+  turns = serves.turns;
+  came = serves.came;
+  went = serves.went;
+  missing = serves.missing;
+  whole = serves.whole;
+  noted = serves.noted;
+  text = serves.text;
+  sent = serves.sent;
+  cut = serves.cut;
+  passes = serves.passes;
+  entries = noted_still notes serves.noted store0 store2 store3 in_turn (in_turn store0 store1 store2 [] serves.noted before serves.entries) behind;
+  asked = serves.asked;
+  cancels = serves.cancels;
+  unasked = serves.unasked;
+  texts = serves.texts;
+  beyond = serves.beyond;
+  queries = serves.queries;
+  slept = serves.slept;
+  caused = serves.caused;
+  heeds = serves.heeds;
+}
+
 -- an earlier moment of the child, and a later one
 pub served_since : {S : Type 0} (notes : List BookEntry → S → S → Type 0) (Text : Ending → List Turn → List ℕ → List ℕ → List BookEntry → Type 0) (decision : Cac) (generation : ℕ) (gives : ℕ → Type 0) (ending : Ending) (link0 link1 : LinkView) (unread0 unread1 : List ℕ) (store0 store1 : S) (at0 at1 at2 at3 : Attention)
     → ((turns : List Turn) → HasAskedFor turns at1.told at2.told → HasAskedFor turns at0.told at2.told) → KeepsCancels at0.told at1.told → at3.told ≡ at2.told
@@ -683,19 +711,19 @@ served_since notes Text decision generation gives ending link0 link1 unread0 unr
 }
 
 -- what the gate answered changes nothing of what was asked
-asked_behind : (first second : Told) (answer : Result ℕ GateNo) (turns : List Turn) (now : Option Told) → HasAsked 1 (Some first) (Some second) → HasAskedFor turns (Some (met_at_gate answer second)) now → HasAskedFor turns (Some first) now
-asked_behind first second answer turns None one two = absurd two
-asked_behind first second answer turns (Some now) one two = omega (arith, one.0, two)
+asked_behind : (first second : Told) (tried : Attempt) (turns : List Turn) (now : Option Told) → HasAsked 1 (Some first) (Some second) → HasAskedFor turns (Some (met_at_gate tried second)) now → HasAskedFor turns (Some first) now
+asked_behind first second tried turns None one two = absurd two
+asked_behind first second tried turns (Some now) one two = omega (arith, one.0, two)
 
-pub asked_at_gate : (answer : Result ℕ GateNo) (turns : List Turn) (first second third fourth : Option Told) → HasAsked 1 first second → third ≡ option_map (met_at_gate answer) second → HasAskedFor turns third fourth → HasAskedFor turns first fourth
-asked_at_gate answer turns None second third fourth one is two = tt
-asked_at_gate answer turns (Some first) None third fourth one is two = absurd one
-asked_at_gate answer turns (Some first) (Some second) third fourth one is two =
-    asked_behind first second answer turns fourth one (subst (λ (t : Option Told). HasAskedFor turns t fourth) is two)
+pub asked_at_gate : (tried : Attempt) (turns : List Turn) (first second third fourth : Option Told) → HasAsked 1 first second → third ≡ option_map (met_at_gate tried) second → HasAskedFor turns third fourth → HasAskedFor turns first fourth
+asked_at_gate tried turns None second third fourth one is two = tt
+asked_at_gate tried turns (Some first) None third fourth one is two = absurd one
+asked_at_gate tried turns (Some first) (Some second) third fourth one is two =
+    asked_behind first second tried turns fourth one (subst (λ (t : Option Told). HasAskedFor turns t fourth) is two)
 
-pub met_now : (answer : Result ℕ GateNo) (before now : Option Told) → now ≡ option_map (met_at_gate answer) before → IfSome now (λ t. t.met ≡ Some answer)
-met_now answer None now e = rw e tt
-met_now answer (Some before) now e = rw e refl
+pub met_now : (is_ordinary : Bool) (answer : Result ℕ GateNo) (before now : Option Told) → now ≡ option_map (met_at_gate (attempt is_ordinary answer)) before → IfSome now (λ t. answer_met t ≡ Some answer)
+met_now is_ordinary answer None now e = rw e tt
+met_now is_ordinary answer (Some before) now e = rw e refl
 
 -- ---- letting go
 
@@ -770,10 +798,10 @@ stops_at phase cause ends last beyond at here over (inr told) =
     let end = told_stops phase ends at (last ++ beyond) told.1 in ([], last ++ beyond, end.0, refl, end.1)
 
 -- a session that no packet started
-pub stopped_session : {S : Type 0} (notes : List BookEntry → S → S → Type 0) (decision : Cac) (user : User) (key : ℕ) (gives : ℕ → Type 0) (limit : ℕ) (cause : Cause) (ending : Ending) (link0 link1 link2 : LinkView) (unread1 : List ℕ) (store : S) (at0 at1 at2 : Attention) → notes [] store store
+pub stopped_session : {S : Type 0} (notes : List BookEntry → S → S → Type 0) (decision : Cac) (user : User) (key : ℕ) (gives : ℕ → Type 0) (limit : ℕ) (cause : Cause) (ending : Ending) (link0 link1 link2 : LinkView) (unread1 : List ℕ) (store0 store2 : S) (at0 at1 at2 : Attention) → notes [] store0 store2
     → IsFresh link0.traffic → Enters gives limit (Err cause) (outside link0 [] at0) (outside link1 unread1 at1) → ending.stage ≡ Outside → Closes decision cause ending (outside link1 [] at1) (outside link2 [] at2)
-    → IsSession notes decision user key [] ending (HasFailed link0 link2) (between link2.traffic store store)
-stopped_session notes decision user key gives limit cause ending link0 link1 link2 unread1 store at0 at1 at2 rests fresh enters stage closes =
+    → IsSession notes decision user key [] ending (HasFailed link0 link2) (between link2.traffic store0 store2)
+stopped_session notes decision user key gives limit cause ending link0 link1 link2 unread1 store0 store2 at0 at1 at2 rests fresh enters stage closes =
     let last = last_messages decision ending in
     let stops = stopped gives limit cause enters.phase enters.last enters.beyond enters.missing (outside link0 [] at0) (outside link1 unread1 at1) enters.goes_on in
     let split = stops_at enters.phase cause ending.cause enters.last enters.beyond at2 stops.0 stops.1 closes.ends in
@@ -864,11 +892,14 @@ cut_or exit missing link1 link2 (inl none) = inl none
 cut_or exit missing link1 link2 (inr (inl none)) = absurd none
 cut_or exit missing link1 link2 (inr (inr h)) = inr (inr h)
 
+starts_of : (is_ordinary : Bool) (packet : List ℕ) → IsStartOf is_ordinary packet → IsStart packet
+starts_of is_ordinary packet start = (start.0, start.1)
+
 -- a session that a packet started
-pub started_session : {S : Type 0} (notes : List BookEntry → S → S → Type 0) (decision : Cac) (user : User) (key generation : ℕ) (gives : ℕ → Type 0) (limit : ℕ) (ending : Ending) (link0 link1 link2 : LinkView) (unread1 unread2 : List ℕ) (store1 store2 : S) (at0 at1 at2 : Attention) → IsFresh link0.traffic
-    → Enters gives limit (Ok tt) (outside link0 [] at0) (outside link1 unread1 at1) → (serves : Serves notes (IsTextBehind decision user key) decision generation gives ending (moment link1 unread1 store1 at1) (moment link2 unread2 store2 at2))
+pub started_session : {S : Type 0} (notes : List BookEntry → S → S → Type 0) (decision : Cac) (user : User) (key generation : ℕ) (gives : ℕ → Type 0) (limit : ℕ) (is_ordinary : Bool) (ending : Ending) (link0 link1 link2 : LinkView) (unread1 unread2 : List ℕ) (store1 store2 : S) (at0 at1 at2 : Attention) → IsFresh link0.traffic
+    → Enters gives limit (Ok is_ordinary) (outside link0 [] at0) (outside link1 unread1 at1) → (serves : Serves notes (IsTextBehind decision user key) decision generation gives ending (moment link1 unread1 store1 at1) (moment link2 unread2 store2 at2))
     → IsSession notes decision user key serves.turns ending (HasFailed link0 link2) (between link2.traffic store1 store2)
-started_session notes decision user key generation gives limit ending link0 link1 link2 unread1 unread2 store1 store2 at0 at1 at2 fresh enters serves =
+started_session notes decision user key generation gives limit is_ordinary ending link0 link1 link2 unread1 unread2 store1 store2 at0 at1 at2 fresh enters serves =
     let requests = flat_map (λ p. p) enters.requests in
     let answers = map (λ p. 78) enters.requests in
     let came : enters.came ≡ requests ++ enters.last ++ unread1 = enters.input ∙ ap (λ (l : List ℕ). requests ++ enters.last ++ l) enters.goes_on.1 in
@@ -879,21 +910,21 @@ started_session notes decision user key generation gives limit ending link0 link
       came_in = requests ++ enters.last ++ (unread1 ++ serves.came);
       whole = answers ++ serves.whole;
       noted = serves.noted;
-      text = serves.text enters.requests enters.phase enters.last enters.asks enters.goes_on.0;
+      text = serves.text enters.requests enters.phase enters.last enters.asks (starts_of is_ordinary enters.last enters.goes_on.0);
       passed = has_passed (CutsOff ending.exit ⊎ HasFailed link0 link2) (enters.came ++ serves.came) (requests ++ enters.last ++ (unread1 ++ serves.came)) (enters.went ++ serves.went) sent.0 (answers ++ serves.whole) link0 link2 fresh
           (passes_both enters.came enters.went serves.came serves.went link0 link1 link2 enters.passes serves.passes) all_came sent.1
           (cut_since ending.exit sent.0 link0 link1 link2 enters.passes.later (cut_or ending.exit sent.0 link1 link2 sent.2));
       entries = serves.entries;
     }
 
-pub started_slept : {S : Type 0} (notes : List BookEntry → S → S → Type 0) (decision : Cac) (user : User) (key generation : ℕ) (gives : ℕ → Type 0) (limit : ℕ) (ending : Ending) (link0 link1 link2 : LinkView) (unread1 unread2 : List ℕ) (store1 store2 : S) (at0 at1 at2 : Attention) → IsFresh link0.traffic
-    → Enters gives limit (Ok tt) (outside link0 [] at0) (outside link1 unread1 at1) → (serves : Serves notes (IsTextBehind decision user key) decision generation gives ending (moment link1 unread1 store1 at1) (moment link2 unread2 store2 at2))
+pub started_slept : {S : Type 0} (notes : List BookEntry → S → S → Type 0) (decision : Cac) (user : User) (key generation : ℕ) (gives : ℕ → Type 0) (limit : ℕ) (is_ordinary : Bool) (ending : Ending) (link0 link1 link2 : LinkView) (unread1 unread2 : List ℕ) (store1 store2 : S) (at0 at1 at2 : Attention) → IsFresh link0.traffic
+    → Enters gives limit (Ok is_ordinary) (outside link0 [] at0) (outside link1 unread1 at1) → (serves : Serves notes (IsTextBehind decision user key) decision generation gives ending (moment link1 unread1 store1 at1) (moment link2 unread2 store2 at2))
     → IfSome link2.traffic (λ t. HasSlept gives serves.turns t.came_in)
 unfolding started_session
-started_slept notes decision user key generation gives limit ending link0 link1 link2 unread1 unread2 store1 store2 at0 at1 at2 fresh enters serves =
-    let session = started_session notes decision user key generation gives limit ending link0 link1 link2 unread1 unread2 store1 store2 at0 at1 at2 fresh enters serves in
+started_slept notes decision user key generation gives limit is_ordinary ending link0 link1 link2 unread1 unread2 store1 store2 at0 at1 at2 fresh enters serves =
+    let session = started_session notes decision user key generation gives limit is_ordinary ending link0 link1 link2 unread1 unread2 store1 store2 at0 at1 at2 fresh enters serves in
     slept_at gives serves.turns session.came_in link2.traffic session.passed.read
-    (came_slept gives enters.requests enters.phase enters.last (unread1 ++ serves.came) serves.turns serves.texts serves.beyond enters.asks enters.goes_on.0 serves.slept serves.queries)
+    (came_slept gives enters.requests enters.phase enters.last (unread1 ++ serves.came) serves.turns serves.texts serves.beyond enters.asks (starts_of is_ordinary enters.last enters.goes_on.0) serves.slept serves.queries)
 
 caused_more : (cause : Cause) (decision : Cac) (traffic : Option Traffic) (before now : Type 0) (told : Option Told) (limit : ℕ) (gives : ℕ → Type 0) → (before → now) → CausedBy cause decision traffic before told limit gives → CausedBy cause decision traffic now told limit gives
 caused_more Terminated decision traffic before now told limit gives more caused = caused
@@ -995,48 +1026,85 @@ no_cancel_kept (Some before) None keeps none = absurd keeps
 no_cancel_kept (Some before) (Some now) keeps none = keeps ∙ none
 
 -- and one that a packet started
-pub started_made : (gives : ℕ → Type 0) (limit : ℕ) (ending : Ending) (link0 link1 link2 : LinkView) (unread1 : List ℕ) (at0 at1 at2 : Attention) (times : ℕ) → HasNoCancel at0.told → Enters gives limit (Ok tt) (outside link0 [] at0) (outside link1 unread1 at1) → (HasNoCancel at1.told → HasNoCancel at2.told)
+pub started_made : (gives : ℕ → Type 0) (limit : ℕ) (is_ordinary : Bool) (ending : Ending) (link0 link1 link2 : LinkView) (unread1 : List ℕ) (at0 at1 at2 : Attention) (times : ℕ) → HasNoCancel at0.told → Enters gives limit (Ok is_ordinary) (outside link0 [] at0) (outside link1 unread1 at1) → (HasNoCancel at1.told → HasNoCancel at2.told)
     → ending.cause ≢ Cancelling → HasCancelled ending.cause link2.traffic at2.told
-started_made gives limit ending link0 link1 link2 unread1 at0 at1 at2 times none enters still other =
+started_made gives limit is_ordinary ending link0 link1 link2 unread1 at0 at1 at2 times none enters still other =
     none_made ending.cause link2.traffic at2.told (still (cancels_still 0 [] at0.told at1.told enters.attends.asked (cancels_then at0.told enters.heard.told at1.told enters.hears.cancels enters.cancels) none)) other
+
+-- ---- as whom it came to the gate
+
+pub never_come : (link : Option Traffic) (told : Option Told) → IsUntried told → HasCome link told
+never_come link None untried = tt
+never_come link (Some told) untried = subst (λ (met : Option Attempt). IfSome met (λ tried. IfSome link (λ traffic. ComesAs tried traffic.came_in))) (sym untried) tt
+
+come_so : (is_ordinary : Bool) (came_in : List ℕ) (link : Option Traffic) (met : Option Attempt) → ((tried : Attempt) → tried.is_ordinary ≡ is_ordinary → ComesAs tried came_in) → IfSome link (λ t. t.came_in ≡ came_in)
+    → IfSome met (λ tried. tried.is_ordinary ≡ is_ordinary) → IfSome met (λ tried. IfSome link (λ traffic. ComesAs tried traffic.came_in))
+come_so is_ordinary came_in link None comes is came = tt
+come_so is_ordinary came_in None (Some tried) comes is came = tt
+come_so is_ordinary came_in (Some traffic) (Some tried) comes is came = subst (λ (l : List ℕ). ComesAs tried l) (sym is) (comes tried came)
+
+has_come : (is_ordinary : Bool) (came_in : List ℕ) (link : Option Traffic) (told : Option Told) → ((tried : Attempt) → tried.is_ordinary ≡ is_ordinary → ComesAs tried came_in) → IfSome link (λ t. t.came_in ≡ came_in) → HasComeAs is_ordinary told → HasCome link told
+has_come is_ordinary came_in link None comes is came = tt
+has_come is_ordinary came_in link (Some told) comes is came = come_so is_ordinary came_in link told.met comes is came
+
+-- as the user whom its startup packet names
+pub started_come : {S : Type 0} (notes : List BookEntry → S → S → Type 0) (decision : Cac) (user : User) (key generation : ℕ) (gives : ℕ → Type 0) (limit : ℕ) (is_ordinary : Bool) (ending : Ending) (link0 link1 link2 : LinkView) (unread1 unread2 : List ℕ) (store1 store2 : S) (at0 at1 at2 : Attention) → IsFresh link0.traffic
+    → Enters gives limit (Ok is_ordinary) (outside link0 [] at0) (outside link1 unread1 at1) → (serves : Serves notes (IsTextBehind decision user key) decision generation gives ending (moment link1 unread1 store1 at1) (moment link2 unread2 store2 at2))
+    → HasComeAs is_ordinary at2.told → HasCome link2.traffic at2.told
+unfolding started_session
+started_come notes decision user key generation gives limit is_ordinary ending link0 link1 link2 unread1 unread2 store1 store2 at0 at1 at2 fresh enters serves came =
+    let session = started_session notes decision user key generation gives limit is_ordinary ending link0 link1 link2 unread1 unread2 store1 store2 at0 at1 at2 fresh enters serves in
+    has_come is_ordinary session.came_in link2.traffic at2.told
+    (λ tried same. record {
+      requests = enters.requests;
+      phase = enters.phase;
+      packet = enters.last;
+      beyond = unread1 ++ serves.came;
+      asks = enters.asks;
+      start = subst (λ (o : Bool). IsStartOf o enters.last) (sym same) enters.goes_on.0;
+      input = refl;
+    }) session.passed.read came
 
 -- ---- the whole, as its caller sees it
 
 -- memory was short before the first byte
-pub connected_not : {S P : Type 0} (its : Store.Ghosts S P) (admission : Admission) (gives : ℕ → Type 0) (limit : ℕ) (exit : Cause) (link0 link1 : LinkView) (store : S) (at0 at1 : Attention) → its.notes [] store store
+pub connected_not : {S P : Type 0} (its : Store.Ghosts S P) (admission : Admission) (gives : ℕ → Type 0) (limit : ℕ) (exit : Cause) (link0 link1 : LinkView) (store0 store1 : S) (at0 at1 : Attention) → its.notes [] store0 store1
     → IsFresh link0.traffic → at0.child.attached ≡ None → IfSome at0.told (λ t. t ≡ nothing_told) → ClosesBy admission.decision Outside ShortOfMemory exit (outside link0 [] at0) (outside link1 [] at1)
-    → Connected its admission gives limit exit (moment link0 [] store at0) (moment link1 [] store at1)
-connected_not its admission gives limit exit link0 link1 store at0 at1 rests fresh free untold (ending, stage, exits, closes) = (
+    → Connected its admission gives limit exit (moment link0 [] store0 at0) (moment link1 [] store1 at1)
+connected_not its admission gives limit exit link0 link1 store0 store1 at0 at1 rests fresh free untold (ending, stage, exits, closes) = (
   ending,
   [],
   0,
   exits,
-  stopped_session its.notes admission.decision (newcomer (its.stamp store) at0.child.pid 0) admission.key gives limit ShortOfMemory ending link0 link0 link1 [] store at0 at0 at1 rests fresh (enters_not gives limit link0 at0) stage closes,
+  stopped_session its.notes admission.decision (newcomer (its.stamp store0) at0.child.pid 0) admission.key gives limit ShortOfMemory ending link0 link0 link1 [] store0 store1 at0 at0 at1 rests fresh (enters_not gives limit link0 at0) stage closes,
   stopped_caused admission.decision 0 ShortOfMemory ending link0 link0 link1 [] at0 at0 at1 limit gives fresh (enters_not gives limit link0 at0) stage closes (untried_still 1 at0.told at1.told closes.hears.asked (new_untried at0.told untold)),
   asked_for 1 [] at0.told at1.told (omega arith) closes.hears.asked,
   attached_outside ending.stage (at1.child.attached ≡ None) (LetsGo ending.exit (at1.child.attached ≡ None) (at1.child.attached ≡ Some 0)) stage (ap (λ (child : Child). child.attached) closes.hears.child ∙ free),
   stopped_made gives limit admission.decision ShortOfMemory ending link0 link0 link1 [] at0 at0 at1 fresh (new_no_cancel at0.told untold) (enters_not gives limit link0 at0) closes,
   closes.heeds,
-  ending_overtaken (its.met store) 0 ShortOfMemory ending at1 closes.ends (λ e. absurd cc),
+  ending_overtaken (its.met store1) 0 ShortOfMemory ending at1 closes.ends (λ e. absurd cc),
+  never_come link1.traffic at1.told (untried_still 1 at0.told at1.told closes.hears.asked (new_untried at0.told untold)),
 )
 
--- What a link and a life were given and give back.
-pub record Handed (link0 link1 given back : LinkView) (at0 at1 : Attention) (told0 told1 : Option Told) (child0 child1 : Child) : Type 0 where
+-- The link and the work that were given and are given back.
+pub record Handed {S : Type 0} (link0 link1 given back : LinkView) (store0 store1 work0 work1 : S) (at0 at1 : Attention) (told0 told1 : Option Told) (child0 child1 : Child) : Type 0 where
   pub link_given : link0 ≡ given
   pub link_back : link1 ≡ back
+  pub work_given : store0 ≡ work0
+  pub work_back : work1 ≡ store1
   pub told_given : at0.told ≡ told0
   pub told_back : told1 ≡ at1.told
   pub child_given : at0.child ≡ child0
   pub child_back : child1 ≡ at1.child
 
-pub connected_as : {S P : Type 0} (its : Store.Ghosts S P) (admission : Admission) (gives : ℕ → Type 0) (exit : Cause) (status : Status) (limit : ℕ) (link0 link1 given back : LinkView) (unread0 unread1 : List ℕ) (store0 store1 : S) (at0 at1 : Attention)
-    (told0 told1 : Option Told) (child0 child1 : Child) → Handed link0 link1 given back at0 at1 told0 told1 child0 child1 → status ≡ status_by exit → Connected its admission gives limit exit (moment link0 unread0 store0 at0) (moment link1 unread1 store1 at1)
+pub connected_as : {S P : Type 0} (its : Store.Ghosts S P) (admission : Admission) (gives : ℕ → Type 0) (exit : Cause) (status : Status) (limit : ℕ) (link0 link1 given back : LinkView) (unread0 unread1 : List ℕ) (store0 store1 work0 work1 : S) (at0 at1 : Attention)
+    (told0 told1 : Option Told) (child0 child1 : Child) → Handed link0 link1 given back store0 store1 work0 work1 at0 at1 told0 told1 child0 child1 → status ≡ status_by exit → Connected its admission gives limit exit (moment link0 unread0 store0 at0) (moment link1 unread1 store1 at1)
     → (ending : Ending) × (turns : List Turn) × (generation : ℕ) × (status ≡ status_of ending)
-    × IsSession its.notes admission.decision (newcomer (its.stamp store0) child0.pid generation) admission.key turns ending (HasFailed given back) (between back.traffic store0 store1)
+    × IsSession its.notes admission.decision (newcomer (its.stamp work0) child0.pid generation) admission.key turns ending (HasFailed given back) (between back.traffic work0 work1)
     × IsCaused ending turns generation admission.decision back.traffic (HasFailed given back) told1 limit gives × HasAskedFor turns told0 told1
-    × IsAttachedBehind ending generation child1.attached × HasCancelled ending.cause back.traffic told1 × IsOvertakenBy (its.met store1) generation ending.exit
-connected_as its admission gives exit status limit link0 link1 given back unread0 unread1 store0 store1 at0 at1 told0 told1 child0 child1 handed is s =
-    rw (← handed.link_given, ← handed.link_back, ← handed.told_given, handed.told_back, ← handed.child_given, handed.child_back) (s.0, s.1, s.2, is ∙ ap status_by (sym s.3), s.4, s.5, s.6, s.7, s.8, s.10)
+    × IsAttachedBehind ending generation child1.attached × HasCancelled ending.cause back.traffic told1 × IsOvertakenBy (its.met work1) generation ending.exit × HasCome back.traffic told1
+connected_as its admission gives exit status limit link0 link1 given back unread0 unread1 store0 store1 work0 work1 at0 at1 told0 told1 child0 child1 handed is s =
+    rw (← handed.link_given, ← handed.link_back, ← handed.work_given, handed.work_back, ← handed.told_given, handed.told_back, ← handed.child_given, handed.child_back) (s.0, s.1, s.2, is ∙ ap status_by (sym s.3), s.4, s.5, s.6, s.7, s.8, s.10, s.11)
 
 pub connected_heeds : {S P : Type 0} (its : Store.Ghosts S P) (admission : Admission) (gives : ℕ → Type 0) (limit : ℕ) (exit : Cause) (status : Status) (before now : Moment S) (told : Option Told) → status ≡ status_by exit → told ≡ now.child.told
     → Connected its admission gives limit exit before now → Heeds status told

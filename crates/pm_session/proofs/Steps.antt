@@ -40,18 +40,18 @@ signal_beyond Killed beyond signal = tt
 signal_beyond Overtaken beyond signal = absurd signal
 
 -- a signal ended the session before a message was taken
-pub stops_here : {S : Type 0} (notes : List BookEntry → S → S → Type 0) (gives : ℕ → Type 0) (user : User) (cause : Cause) (unread : List ℕ) (link : LinkView) (store : S) (child_before child_now : Attention) → IsSignal cause → notes [] store store
-    → Hears 1 child_before child_now → Conversed notes gives user cause (moment link unread store child_before) (moment link unread store child_now)
-stops_here notes gives user cause unread link store child_before child_now signal rests heard =
-    ends_here notes gives user cause [] [] 1 (moment link unread store child_before) (moment link unread store child_now) (broken_ends user cause [] (signal_breaks cause signal) nothing_yet) (signal_beyond cause unread signal)
+pub stops_here : {S : Type 0} (notes : List BookEntry → S → S → Type 0) (gives : ℕ → Type 0) (user : User) (cause : Cause) (unread : List ℕ) (link : LinkView) (store_before store_now : S) (child_before child_now : Attention) → IsSignal cause → notes [] store_before store_now
+    → Hears 1 child_before child_now → Conversed notes gives user cause (moment link unread store_before child_before) (moment link unread store_now child_now)
+stops_here notes gives user cause unread link store_before store_now child_before child_now signal rests heard =
+    ends_here notes gives user cause [] [] 1 (moment link unread store_before child_before) (moment link unread store_now child_now) (broken_ends user cause [] (signal_breaks cause signal) nothing_yet) (signal_beyond cause unread signal)
     (append-nil unread) (passes_none link) rests heard
 
 -- bytes came in, or the wait for them was broken off
-pub waited : {S : Type 0} (notes : List BookEntry → S → S → Type 0) (gives : ℕ → Type 0) (user : User) (wanted : ℕ) (result : Result (Unit {0}) Cause) (unread_before unread_now : List ℕ) (link_before link_now : LinkView) (store : S)
-    (child_before child_between child_now : Attention) → notes [] store store → Hears 1 child_before child_between → Hears 0 child_between child_now → Comes wanted result unread_before unread_now link_before link_now
+pub waited : {S : Type 0} (notes : List BookEntry → S → S → Type 0) (gives : ℕ → Type 0) (user : User) (wanted : ℕ) (result : Result (Unit {0}) Cause) (unread_before unread_now : List ℕ) (link_before link_now : LinkView) (store_before store_now : S)
+    (child_before child_between child_now : Attention) → notes [] store_before store_now → Hears 1 child_before child_between → Hears 0 child_between child_now → Comes wanted result unread_before unread_now link_before link_now
     → ((more : List ℕ) → length (unread_before ++ more) < wanted → IsUndecided (unread_before ++ more))
-    → Converses notes gives user result (moment link_before unread_before store child_before) (moment link_now unread_now store child_now)
-waited notes gives user wanted (Ok done) unread_before unread_now link_before link_now store child_before child_between child_now rests heard more_heard comes undecided = record {
+    → Converses notes gives user result (moment link_before unread_before store_before child_before) (moment link_now unread_now store_now child_now)
+waited notes gives user wanted (Ok done) unread_before unread_now link_before link_now store_before store_now child_before child_between child_now rests heard more_heard comes undecided = record {
   texts = [];
   turns = [];
   asked = [];
@@ -66,9 +66,9 @@ waited notes gives user wanted (Ok done) unread_before unread_now link_before li
   heeded = heed_none 0 child_before.told child_now.told (hears_fewer 0 1 child_before child_now (hears_both 1 0 child_before child_between child_now heard more_heard)).asked;
   cancelled = λ turn among is. absurd (nothing_among turn among);
 }
-waited notes gives user wanted (Err cause) unread_before unread_now link_before link_now store child_before child_between child_now rests heard more_heard comes undecided =
+waited notes gives user wanted (Err cause) unread_before unread_now link_before link_now store_before store_now child_before child_between child_now rests heard more_heard comes undecided =
     let why = comes.unread in
-    ends_here notes gives user cause (unread_before ++ comes.came) comes.came 1 (moment link_before unread_before store child_before) (moment link_now unread_now store child_now)
+    ends_here notes gives user cause (unread_before ++ comes.came) comes.came 1 (moment link_before unread_before store_before child_before) (moment link_now unread_now store_now child_now)
     (broken_ends user cause (unread_before ++ comes.came) why.2 (undecided comes.came why.1)) (subst (MayPassOver cause) (sym why.0) (nothing_beyond cause))
     (sym (append-nil (unread_before ++ comes.came)) ∙ ap (λ (l : List ℕ). (unread_before ++ comes.came) ++ l) (sym why.0))
     comes.passes rests (hears_both 1 0 child_before child_between child_now heard more_heard)
@@ -81,12 +81,12 @@ pub bad_length : (unread : List ℕ) (seen : ℕ) → BeginsBadly unread seen �
 bad_length unread seen (header, rest, is, bad) = omega (arith, ap length is, length-append header rest, header_length header seen bad)
 
 -- a length that no message has
-pub length_refused : {S : Type 0} (notes : List BookEntry → S → S → Type 0) (gives : ℕ → Type 0) (user : User) (seen : ℕ) (unread : List ℕ) (link : LinkView) (store : S) (child_before child_now : Attention) → notes [] store store → Hears 1 child_before child_now
-    → BeginsBadly unread seen → Conversed notes gives user (MessageRefused (BadLength seen)) (moment link unread store child_before) (moment link (drop 5 unread) store child_now)
-length_refused notes gives user seen unread link store child_before child_now rests heard (header, rest, is, bad) =
+pub length_refused : {S : Type 0} (notes : List BookEntry → S → S → Type 0) (gives : ℕ → Type 0) (user : User) (seen : ℕ) (unread : List ℕ) (link : LinkView) (store_before store_now : S) (child_before child_now : Attention) → notes [] store_before store_now → Hears 1 child_before child_now
+    → BeginsBadly unread seen → Conversed notes gives user (MessageRefused (BadLength seen)) (moment link unread store_before child_before) (moment link (drop 5 unread) store_now child_now)
+length_refused notes gives user seen unread link store_before store_now child_before child_now rests heard (header, rest, is, bad) =
     let size : length header ≡ 5 = header_length header seen bad in
     let behind : drop 5 unread ≡ rest = ap (λ (l : List ℕ). drop 5 l) is ∙ ap (λ (n : ℕ). drop n (header ++ rest)) (sym size) ∙ drop_front header rest in
-    ends_here notes gives user (MessageRefused (BadLength seen)) header [] 1 (moment link unread store child_before) (moment link (drop 5 unread) store child_now) (bad, refl) tt
+    ends_here notes gives user (MessageRefused (BadLength seen)) header [] 1 (moment link unread store_before child_before) (moment link (drop 5 unread) store_now child_now) (bad, refl) tt
     (append-nil unread ∙ is ∙ ap (λ (l : List ℕ). header ++ l) (sym behind)) (passes_none link) rests heard
   where
     drop_front : (front rest : List ℕ) → drop (length front) (front ++ rest) ≡ rest

@@ -1,6 +1,6 @@
 -- Completeness: which queries of what came in have an answer.
 use Rattle.std.specs.{Prelude.{◌≡◌, ◌⊎◌, ℕ, List, [], ◌∷◌, ◌++◌, Some, Ok}, List.flat_map, Str.IsUtf8}
-use Rattle.pm_session_exchange.specs.{pm_outside.{pm_disk.Cause.Rose, Traffic.Traffic}, pm_child_life.Life.Told, declared.ending.Cause.{Cause, TheVariants.{ShortOfMemory, Panicked, Overtaken}}, Sent.{Turn, Ran, LogIsFull, Memory}}
+use Rattle.pm_session_exchange.specs.{pm_outside.{pm_disk.Cause.Rose, Traffic.Traffic}, pm_child_life.Life.{Told, answer_met}, declared.ending.Cause.{Cause, TheVariants.{ShortOfMemory, Panicked, Overtaken}}, Sent.{Turn, Ran, LogIsFull, Memory}}
 use Rattle.pm_admit.specs.declared.Cac.{Cac}
 use Rattle.pm_startup.specs.{declared.phase.Phase.Phase, pm_wire.Frontend.{IsFront, Query}}
 use Rattle.pm_query.specs.{pm_sql.{declared.stmt.Stmt.Stmt, Statements.IsQueryText}, declared.book.BookEntry.BookEntry, Calls.User}
@@ -48,7 +48,7 @@ EndsForStore _ = ⊥
 
 -- The child went through the gate and was given no signal, and its link didn't fail.
 pub record IsUndisturbed (generation : ℕ) (told : Told) (faults_before faults_now : ℕ) : Type 0 where
-  pub met : told.met ≡ Some (Ok generation)
+  pub met : answer_met told ≡ Some (Ok generation)
   pub given : told.given ≡ []
   pub sound : ¬ (Rose faults_before faults_now)
 

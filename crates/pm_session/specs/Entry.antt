@@ -1,13 +1,13 @@
 -- The start of a connection, up to its startup packet; and what is said last.
-use Rattle.std.specs.{Prelude.{◌≡◌, ◌≢◌, ◌⊎◌, ℕ, ◌<◌, ◌≤◌, List, [], ◌∷◌, ◌++◌, length, take, map, true, false, Option, IfSome, Result, Ok, Err, MatchOption}, List.flat_map, Option.option_map}
+use Rattle.std.specs.{Prelude.{◌≡◌, ◌≢◌, ◌⊎◌, ℕ, ◌<◌, ◌≤◌, List, [], ◌∷◌, ◌++◌, length, take, map, Bool, true, false, Option, IfSome, Result, Ok, Err, MatchOption}, List.flat_map, Option.option_map}
 use Rattle.pm_admit.specs.declared.Cac.{Cac}
 use Rattle.pm_admit.specs.declared.Cac.TheVariants as decisions
 use Rattle.pm_session_exchange.specs.pm_exit.declared.child.Status.TheVariants as statuses
 use Rattle.pm_startup.specs.{declared.phase.{Phase.Phase, Step.TheVariants.SayNo}, Grammar.{Content, startup, cancel_request, Decides, FrontDecides, IsUndecided as IsNoPacketYet, max_length}, Phases.step_of, pm_wire.{Backend.BackMessage, Conditions.told, declared.condition.Condition.Condition}}
-use Rattle.pm_session_exchange.specs.{pm_query.{declared.{book.BookEntry.{BookEntry, TheVariants.Attached}, store.StoreNo.StoreNo}, Calls.{User, newcomer, user_of}}, pm_child_life.{Life.{Told, Kill, Quit, Terminate, asked_cancel}, Attention.{Attention, Hears, KeepsCancels, was_given}}, declared.ending.{Cause.{Cause, TheVariants.{Cancelling, TimedOut, ToldToTerminate, ToldToQuit, Killed, Overtaken, ShortOfMemory}}, Stage.Stage}, Exchange.{Passes, HasFailed, CutsOff, Holds, IsLeftFor, IsSound}, Sent.{Turn, bytes_of}, Ends.status_by, Moments.{Moment, ShowsCause, Attends}, Answers.IsOvertakenBy}
+use Rattle.pm_session_exchange.specs.{pm_query.{declared.{book.BookEntry.{BookEntry, TheVariants.Attached}, store.StoreNo.StoreNo}, Calls.{User, newcomer, user_of}}, pm_child_life.{Life.{Told, Kill, Quit, Terminate, asked_cancel}, Attention.{Attention, Hears, KeepsCancels, was_given}}, declared.ending.{Cause.{Cause, TheVariants.{Cancelling, TimedOut, ToldToTerminate, ToldToQuit, Killed, Overtaken, ShortOfMemory}}, Stage.Stage}, Exchange.{Passes, HasFailed, CutsOff, HoldsLooking, IsLeftFor, IsSound}, Sent.{Turn, bytes_of}, Ends.status_by, Moments.{Moment, ShowsCause, Attends}, Answers.IsOvertakenBy}
 use Rattle.pm_session_exchange.specs.pm_query.declared.store.StoreNo.TheVariants as nos
 use Rattle.pm_session_exchange.specs.pm_query.declared.store.Store as Store
-use Rattle.pm_session.specs.{declared.{session.Admission.Admission, startup.Ask.{Ask, TheVariants.{Nothing, Encryption, Start, Cancel, Refused}}}, Session.{Ending, Heeds, HasAskedFor, IsCaused, IsSession, IsAttachedBehind, HasCancelled, IsApart, IsInside, AllSleep, HasSlept, EndsSoundly, between, query_bytes, IsText, IsStart, IsRefusedPacket, AskInTurn, StopsAt, MayPassOver, Leaves, first_phase, last_messages, status_of}}
+use Rattle.pm_session.specs.{declared.{session.Admission.Admission, startup.Ask.{Ask, TheVariants.{Nothing, Encryption, Start, Cancel, Refused}}}, Session.{Ending, Heeds, HasAskedFor, IsCaused, IsSession, IsAttachedBehind, HasCancelled, HasCome, IsApart, IsInside, AllSleep, HasSlept, EndsSoundly, between, query_bytes, IsText, IsStart, IsStartOf, is_ordinary_user, IsRefusedPacket, AskInTurn, StopsAt, MayPassOver, Leaves, first_phase, last_messages, status_of}}
 
 -- ---- the startup packet
 
@@ -15,7 +15,7 @@ use Rattle.pm_session.specs.{declared.{session.Admission.Admission, startup.Ask.
 abbrev pub AsksFor : Phase → List ℕ → Ask → Type 0
 AsksFor phase bytes Nothing = IsNoPacketYet bytes × (length bytes < max_length)
 AsksFor phase bytes (Encryption behind used) = (content : Content) × FrontDecides bytes used (Ok content) × (step_of phase content ≡ SayNo behind)
-AsksFor phase bytes (Start used) = (user : List ℕ) × FrontDecides bytes used (Ok (startup user))
+AsksFor phase bytes (Start used is_ordinary) = (user : List ℕ) × FrontDecides bytes used (Ok (startup user)) × (is_ordinary ≡ is_ordinary_user user)
 AsksFor phase bytes (Cancel pid key) = (used : ℕ) × FrontDecides bytes used (Ok (cancel_request pid key))
 AsksFor phase bytes (Refused fault) = (used : ℕ) × (used ≤ length bytes) × IsRefusedPacket phase (take used bytes) fault
 
@@ -29,23 +29,23 @@ pub record Asked (phase : Phase) (before now : Moment (Unit {0})) : Type 0 where
   pub hears : Hears 0 before.child now.child
   pub holds : IsSound false before.link.traffic → IsSound false now.link.traffic
 
--- After the requests this packet starts the session, or it goes no further. At the limit of time the link was read, and the
+-- After the requests this packet starts the session, of an ordinary user or not, or it goes no further. At the limit of time the link was read, and the
 -- packet isn't whole.
-abbrev pub GoesOn : (gives : ℕ → Type 0) → (limit : ℕ) → Result (Unit {0}) Cause → Phase → (last beyond missing : List ℕ) → (before now : Moment (Unit {0})) → Type 0
-GoesOn gives limit (Ok done) phase last beyond missing before now = IsStart last × (beyond ≡ now.unread) × (missing ≡ [])
+abbrev pub GoesOn : (gives : ℕ → Type 0) → (limit : ℕ) → Result Bool Cause → Phase → (last beyond missing : List ℕ) → (before now : Moment (Unit {0})) → Type 0
+GoesOn gives limit (Ok is_ordinary) phase last beyond missing before now = IsStartOf is_ordinary last × (beyond ≡ now.unread) × (missing ≡ [])
 GoesOn gives limit (Err TimedOut) phase last beyond missing before now =
     StopsAt phase TimedOut last × (beyond ≡ []) × (missing ≡ []) × IfSome now.link.traffic (λ t. (t.waits ≡ true) ⊎ (t.came_in ≢ [])) × IsApart gives limit
 GoesOn gives limit (Err cause) phase last beyond missing before now =
     StopsAt phase cause last × MayPassOver cause beyond × ((missing ≡ []) ⊎ CutsOff cause) × ShowsCause cause before.link now.link now.child
 
 -- What the child asked for a cancel: that of a whole packet by which the session ends, and none else.
-abbrev pub AsksToCancel : Result (Unit {0}) Cause → (last : List ℕ) → (before now : Option Told) → Type 0
+abbrev pub AsksToCancel : Result Bool Cause → (last : List ℕ) → (before now : Option Told) → Type 0
 AsksToCancel (Err Cancelling) last before now = (pid : ℕ) × (key : ℕ) × Decides last (Ok (cancel_request pid key)) × (now ≡ option_map (asked_cancel pid key) before)
 AsksToCancel _ last before now = KeepsCancels before now
 
 -- The packets up to the one that starts the session, or up to its end; each request for encryption was answered, but for
 -- one whose answer was broken off.
-pub record Enters (gives : ℕ → Type 0) (limit : ℕ) (result : Result (Unit {0}) Cause) (before now : Moment (Unit {0})) : Type 0 where
+pub record Enters (gives : ℕ → Type 0) (limit : ℕ) (result : Result Bool Cause) (before now : Moment (Unit {0})) : Type 0 where
   pub requests : List (List ℕ)
   pub phase : Phase
   pub last : List ℕ
@@ -62,7 +62,7 @@ pub record Enters (gives : ℕ → Type 0) (limit : ℕ) (result : Result (Unit 
   pub hears : Hears 0 before.child heard
   pub attends : Attends before.child now.child
   pub cancels : AsksToCancel result last heard.told now.child.told
-  pub holds : Holds false result before.link now.link
+  pub holds : HoldsLooking result before.link now.link
 
 -- ---- the store
 
@@ -113,6 +113,10 @@ abbrev pub ClosesBy : Cac → Stage → Cause → (exit : Cause) → (before now
 ClosesBy decision stage cause exit before now = (ending : Ending) × (ending.stage ≡ stage) × (ending.exit ≡ exit) × Closes decision cause ending before now
 
 -- ---- after the startup packet
+
+-- where it was at the gate, it came as an ordinary one, or not
+abbrev pub HasComeAs : (is_ordinary : Bool) → Option Told → Type 0
+HasComeAs is_ordinary told = IfSome told (λ t. IfSome t.met (λ attempt. attempt.is_ordinary ≡ is_ordinary))
 
 -- With any requests for encryption and any startup packet before it, this makes the text of a session.
 abbrev pub IsTextBehind : Cac → User → ℕ → Ending → List Turn → (came whole : List ℕ) → List BookEntry → Type 0
@@ -167,12 +171,13 @@ module _ {S P : Type 0} (its : Store.Ghosts S P) where
       × Serves its.notes (IsTextBehind decisions.Ok (newcomer (its.stamp before.store) before.child.child.pid generation) key) decisions.Ok generation gives ending before now
       × IsInside ending.stage
 
-  -- after the startup packet
-  abbrev pub Admitted : Admission → (gives : ℕ → Type 0) → (exit : Cause) → (before now : Moment S) → Type 0
-  Admitted admission gives exit before now =
+  -- after the startup packet of an ordinary user, or of the superuser
+  abbrev pub Admitted : Admission → (is_ordinary : Bool) → (gives : ℕ → Type 0) → (exit : Cause) → (before now : Moment S) → Type 0
+  Admitted admission is_ordinary gives exit before now =
       (ending : Ending) × (generation : ℕ) × (ending.exit ≡ exit) × IsAttachedBehind ending generation now.child.child.attached
       × Serves its.notes (IsTextBehind admission.decision (newcomer (its.stamp before.store) before.child.child.pid generation) admission.key) admission.decision generation gives ending before now
       × IsOvertakenBy (its.met now.store) generation ending.exit
+      × HasComeAs is_ordinary now.child.told
 
   -- from its first byte, up to this limit of time
   abbrev pub Connected : Admission → (gives : ℕ → Type 0) → (limit : ℕ) → (exit : Cause) → (before now : Moment S) → Type 0
@@ -185,3 +190,4 @@ module _ {S P : Type 0} (its : Store.Ghosts S P) where
       × HasCancelled ending.cause now.link.traffic now.child.told
       × Heeds (status_of ending) now.child.told
       × IsOvertakenBy (its.met now.store) generation ending.exit
+      × HasCome now.link.traffic now.child.told

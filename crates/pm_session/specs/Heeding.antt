@@ -1,6 +1,6 @@
 -- How a session heeds its signals from query to query, and what it reads a query as.
 use Rattle.std.specs.{Prelude.{◌≡◌, ◌≤◌, ◌<◌, ◌-◌, ◌^◌, ℕ, List, [], ◌∷◌, Option, None, Some}, List.Contains}
-use Rattle.pm_session_exchange.specs.{pm_child_life.{Life.{Told, Signal, Kill, Quit, Terminate, Cancel, Checkpoint, next_ask}, Attention.IsBy}, Sent.{Turn, Cancelled}, Queries.{IsReadAs, SleptWhole}}
+use Rattle.pm_session_exchange.specs.{pm_child_life.{Life.{Told, Signal, Cancel, Checkpoint, next_ask}, Attention.IsBy}, Sent.{Turn, Cancelled}, Queries.{IsReadAs, SleptWhole}}
 
 -- ---- signals
 

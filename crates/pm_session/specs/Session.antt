@@ -1,13 +1,13 @@
 -- A whole session: what its client is sent for what it sent, what the child notes, how it ends, and why.
-use Rattle.std.specs.{Prelude.{◌≡◌, ◌≢◌, ◌⊎◌, ℕ, ◌+◌, ◌-◌, ◌^◌, ◌≤◌, min, true, false, List, [], ◌∷◌, ◌++◌, length, map, codes, Option, None, Some, Ok, Err, IfSome}, List.flat_map}
-use Rattle.pm_session_exchange.specs.{pm_outside.{Traffic.Traffic, pm_disk.Cause.Rose}, pm_exit.declared.child.Status.Status, pm_query.{declared.book.BookEntry.{BookEntry, TheVariants.Attached}, Calls.{newcomer, User, MayBeOver, NotesFault, LeaveNotes}}, declared.{last.Done.Done, ending.{MessageFault.{MessageFault, TheVariants.{BadLength, BadForm, LongQuery, Extended, UnknownType}}, Cause.{Cause, TheVariants.{Terminated, Cancelling, LinkEnded, LinkFailed, TimedOut, PacketRefused, MessageRefused, DecisionRefused, GateRefused, ShortOfMemory, Panicked, ToldToTerminate, ToldToQuit, Killed, Overtaken}}, Stage.{Stage, TheVariants.{Outside, Entering, Greeted}}}}, pm_child_life.{declared.life.GateNo.GateNo, Life.{Child, Told, Kill, Quit, Terminate as ToTerminate, Cancel, was_told}, Attention.was_given}, Exchange.CutsOff, Sent.{Turn, bytes_of, greeting, turn_messages, last_of}, Ends.{status_by, LetsGo}, Queries.{IsUnreleased, TurnNotes, Sleeps, IsCancelledTurn}, Answers.IsOvertakenBy}
+use Rattle.std.specs.{Prelude.{◌≡◌, ◌≢◌, ◌⊎◌, ℕ, ◌+◌, ◌-◌, ◌^◌, ◌≤◌, min, not, Bool, true, false, List, [], ◌∷◌, ◌++◌, length, map, codes, Option, None, Some, Ok, Err, IfSome}, List.flat_map, Str.bytes_eq}
+use Rattle.pm_session_exchange.specs.{pm_outside.{Traffic.Traffic, pm_disk.Cause.Rose}, pm_exit.declared.child.Status.Status, pm_query.{declared.book.BookEntry.{BookEntry, TheVariants.Attached}, Calls.{newcomer, User, MayBeOver, NotesFault, LeaveNotes}}, declared.{last.Done.Done, ending.{MessageFault.{MessageFault, TheVariants.{BadLength, BadForm, LongQuery, Extended, UnknownType}}, Cause.{Cause, TheVariants.{Terminated, Cancelling, LinkEnded, LinkFailed, TimedOut, PacketRefused, MessageRefused, DecisionRefused, GateRefused, ShortOfMemory, Panicked, ToldToTerminate, ToldToQuit, Killed, Overtaken}}, Stage.{Stage, TheVariants.{Outside, Entering, Greeted}}}}, pm_child_life.{declared.life.{Attempt.Attempt, GateNo.GateNo}, Life.{Told, Kill, Quit, Terminate as ToTerminate, answer_met, was_told}, Attention.was_given}, Exchange.CutsOff, Sent.{Turn, bytes_of, greeting, turn_messages, last_of}, Ends.{status_by, LetsGo}, Queries.{IsUnreleased, TurnNotes, Sleeps}, Answers.IsOvertakenBy}
 use Rattle.pm_supervisor.specs.{pm_admit.declared.Cac.Cac, declared.Reason.Reason}
 use Rattle.pm_supervisor.specs.pm_admit.declared.Cac.TheVariants as decisions
 use Rattle.pm_session_exchange.specs.pm_exit.declared.child.Status.TheVariants as statuses
 use Rattle.pm_startup.specs.{declared.{packet.StartFault.StartFault, phase.{Phase.Phase, Step.TheVariants.{SayNo, Refuse}}}, Grammar.{Content, startup, cancel_request, Decides, IsUndecided as IsNoPacketYet}, Phases.step_of, pm_wire.{Backend.BackMessage, Frontend.{Query, BadQuery, LongQuery as IsLongQuery, Extended as IsExtended, Other, IsFront, IsUndecided as IsNoMessageYet, IsBadHeader}, Pieces.{message, string}}}
 use Rattle.pm_session_exchange.specs.pm_query.declared.store.Store as Store
 use Rattle.pm_session_exchange.specs.pm_outside.declared.link.Link as Link
-use Rattle.pm_session_exchange.specs.pm_child_life.declared.life.Life as Life
+use Rattle.pm_session_exchange.specs.pm_child_life.declared.seat.Seat as Seat
 use Rattle.pm_session.specs.{declared.session.{Admission.Admission, SessionConf.SessionConf}, Heeding.{TurnsHeed, AllRead}}
 
 -- ---- endings
@@ -61,6 +61,14 @@ IsRefusedPacket phase packet fault =
 
 abbrev pub IsStart : List ℕ → Type 0
 IsStart packet = (user : List ℕ) × Decides packet (Ok (startup user))
+
+-- everybody but the superuser, whose name counts byte by byte
+abbrev pub is_ordinary_user : List ℕ → Bool
+is_ordinary_user user = not (bytes_eq user (codes "postgres"))
+
+-- it starts the session of an ordinary user, or of the superuser
+abbrev pub IsStartOf : (is_ordinary : Bool) → List ℕ → Type 0
+IsStartOf is_ordinary packet = (user : List ℕ) × Decides packet (Ok (startup user)) × (is_ordinary ≡ is_ordinary_user user)
 
 -- the packet after the requests, at an ending before the greeting
 abbrev pub StopsAt : Phase → Cause → List ℕ → Type 0
@@ -253,7 +261,7 @@ CausedBy LinkEnded decision link link_failed told limit gives = IfSome link (λ 
 CausedBy LinkFailed decision link link_failed told limit gives = link_failed
 CausedBy TimedOut decision link link_failed told limit gives = IfSome link (λ traffic. (traffic.waits ≡ true) ⊎ (traffic.came_in ≢ [])) × IsApart gives limit
 CausedBy DecisionRefused decision link link_failed told limit gives = decision ≢ decisions.Ok
-CausedBy (GateRefused refusal) decision link link_failed told limit gives = (decision ≡ decisions.Ok) × IfSome told (λ t. t.met ≡ Some (Err refusal))
+CausedBy (GateRefused refusal) decision link link_failed told limit gives = (decision ≡ decisions.Ok) × IfSome told (λ t. answer_met t ≡ Some (Err refusal))
 CausedBy ToldToTerminate decision link link_failed told limit gives = was_given ToTerminate told
 CausedBy (ToldToQuit reason) decision link link_failed told limit gives = was_given (Quit reason) told
 CausedBy Killed decision link link_failed told limit gives = was_given Kill told
@@ -261,11 +269,11 @@ CausedBy _ decision link link_failed told limit gives = Unit {0}
 
 -- it went through the gate into this generation
 abbrev pub HasEntered : Stage → ℕ → Option Told → Type 0
-HasEntered stage generation told = ByStage stage (Unit {0}) (IfSome told (λ t. t.met ≡ Some (Ok generation)))
+HasEntered stage generation told = ByStage stage (Unit {0}) (IfSome told (λ t. answer_met t ≡ Some (Ok generation)))
 
 -- a child outside was at the gate only where that refused it
 abbrev pub StaysOut : Stage → Cause → Option Told → Type 0
-StaysOut Outside cause told = IfSome told (λ t. (t.met ≡ None) ⊎ ((refusal : GateNo) × (cause ≡ GateRefused refusal) × (t.met ≡ Some (Err refusal))))
+StaysOut Outside cause told = IfSome told (λ t. (t.met ≡ None) ⊎ ((refusal : GateNo) × (cause ≡ GateRefused refusal) × (answer_met t ≡ Some (Err refusal))))
 StaysOut _ cause told = Unit {0}
 
 pub record IsCaused (ending : Ending) (turns : List Turn) (generation : ℕ) (decision : Cac) (link : Option Traffic) (link_failed : Type 0) (told : Option Told) (limit : ℕ) (gives : ℕ → Type 0) : Type 0 where
@@ -324,20 +332,39 @@ pub record HasCancelled (cause : Cause) (link : Option Traffic) (told : Option T
   pub sent : IfSome told (λ t. IfSome link (λ traffic. MakesCancels traffic.came_in t.cancels))
   pub made : cause ≡ Cancelling → IfSome told (λ t. t.cancels ≢ [])
 
+-- ---- the gate
+
+-- A child comes to the gate as its client's user: after requests for encryption that were all answered, whoever is named by a
+-- whole startup packet.
+pub record ComesAs (attempt : Attempt) (came_in : List ℕ) : Type 0 where
+  pub requests : List (List ℕ)
+  pub phase : Phase
+  pub packet : List ℕ
+  pub beyond : List ℕ
+  pub asks : AskInTurn first_phase requests phase
+  pub start : IsStartOf attempt.is_ordinary packet
+  pub input : came_in ≡ flat_map (λ p. p) requests ++ packet ++ beyond
+
+-- one that was there came so
+abbrev pub HasCome : Option Traffic → Option Told → Type 0
+HasCome link told = IfSome told (λ t. IfSome t.met (λ attempt. IfSome link (λ traffic. ComesAs attempt traffic.came_in)))
+
 -- ---- a connection served
 
-module _ {S P L F : Type 0} (its : Store.Ghosts S P) (of_link : Link.Ghosts L) (of_life : Life.Ghosts F) where
-  -- What came in on this link, what went out and what the child of this life noted are those of one session; its ending has
-  -- its causes and its status. It has asked for its signals, is attached or not, and has made cancels as told above. Where
-  -- it exits as overtaken, it has last met the store in another generation than its own.
-  abbrev pub HasServed : Admission → SessionConf → (gives : ℕ → Type 0) → L → F → S → Done L F → S → Type 0
-  HasServed admission conf gives link life before result now =
+module _ {W P L : Type 0} (its : Store.Ghosts W P) (seat : Seat.Ghosts W) (of_link : Link.Ghosts L) where
+  -- What came in on this link, what went out and what the child noted that works on this are those of one session; its ending
+  -- has its causes and its status. It has asked for its signals, is attached or not, and has made cancels as told above. Where
+  -- it exits as overtaken, it has last met the store in another generation than its own. It came to the gate as its client's
+  -- user.
+  abbrev pub HasServed : Admission → SessionConf → (gives : ℕ → Type 0) → L → W → Done L W → Type 0
+  HasServed admission conf gives link work result =
       (ending : Ending) × (turns : List Turn) × (generation : ℕ) × (result.status ≡ status_of ending)
-      × IsSession its.notes admission.decision (newcomer (its.stamp before) (of_life.child life).pid generation) admission.key turns ending
-      (Rose (of_link.faults link) (of_link.faults result.link)) (between (of_link.traffic result.link) before now)
+      × IsSession its.notes admission.decision (newcomer (its.stamp work) (seat.child work).pid generation) admission.key turns ending
+      (Rose (of_link.faults link) (of_link.faults result.link)) (between (of_link.traffic result.link) work result.work)
       × IsCaused ending turns generation admission.decision (of_link.traffic result.link) (Rose (of_link.faults link) (of_link.faults result.link))
-      (of_life.told result.life) conf.authentication_ms gives
-      × HasAskedFor turns (of_life.told life) (of_life.told result.life)
-      × IsAttachedBehind ending generation (of_life.child result.life).attached
-      × HasCancelled ending.cause (of_link.traffic result.link) (of_life.told result.life)
-      × IsOvertakenBy (its.met now) generation ending.exit
+      (seat.told result.work) conf.authentication_ms gives
+      × HasAskedFor turns (seat.told work) (seat.told result.work)
+      × IsAttachedBehind ending generation (seat.child result.work).attached
+      × HasCancelled ending.cause (of_link.traffic result.link) (seat.told result.work)
+      × IsOvertakenBy (its.met result.work) generation ending.exit
+      × HasCome (of_link.traffic result.link) (seat.told result.work)

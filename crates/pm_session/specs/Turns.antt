@@ -16,9 +16,19 @@ pub record Desk : Type 0 where
 abbrev pub desk : LinkView → Outgoing → Attention → Desk
 desk link outbox child = record { link = link; outbox = outbox; child = child }
 
--- a moment at a desk, with what wasn't looked at yet and the store
-abbrev pub at_desk : {S : Type 0} → Desk → List ℕ → S → Moment S
-at_desk at unread store = moment at.link unread store at.child
+-- a desk, and what its child works on
+pub record DeskView (W : Type 0) : Type 0 where
+  pub link : LinkView
+  pub outbox : Outgoing
+  pub work : W
+  pub child : Attention
+
+abbrev pub without_work : {W : Type 0} → DeskView W → Desk
+without_work at = desk at.link at.outbox at.child
+
+-- a moment at a desk, with what wasn't looked at yet
+abbrev pub at_desk : {W : Type 0} → DeskView W → List ℕ → Moment W
+at_desk at unread = moment at.link unread at.work at.child
 
 -- what didn't go out stands in the outbox, or sending was broken off
 abbrev pub IsLeft : Result (Unit {0}) Cause → (missing stands : List ℕ) → Type 0

@@ -13,12 +13,13 @@ use pm_startup::StartFault;
 use pm_supervisor::Reason;
 use pm_wire::{Back, Condition, Fixed, Outbox, conditions_can_be_told, fixed};
 
-impl<L: Link, F: Life> Desk<L, F> {
+impl<L: Link, W: Life> Desk<L, W> {
     /// Brings a session to its end for this cause, and answers by what the child exits. A fault of the link is passed over
     /// here, and a signal counts before a client's own end.
     pub(crate) fn close(&mut self, decision: Cac, stage: Stage, cause: Cause) -> Cause
         ensures closes { ClosesBy decision stage cause result
             (outside self.old.link [] self.old.child) (outside self.new.link [] self.new.child) }
+        ensures rests { W.rests self.old.work self.new.work }
     {
         let cause = self.line.last_cause(cause);
         put_last(&mut self.outbox, decision, stage, cause);
@@ -28,9 +29,10 @@ impl<L: Link, F: Life> Desk<L, F> {
 }
 
 /// Brings a session to its end that found no memory for its buffers.
-pub(crate) fn close_short_of_memory<L: Link, F: Life>(line: &mut Line<L, F>, decision: Cac) -> Cause
+pub(crate) fn close_short_of_memory<L: Link, W: Life>(line: &mut Line<L, W>, decision: Cac) -> Cause
     ensures closes { ClosesBy decision Stage.Outside Cause.ShortOfMemory result
         (outside line.old.link [] line.old.child) (outside line.new.link [] line.new.child) }
+    ensures rests { W.rests line.old.work line.new.work }
 {
     let cause = line.last_cause(Cause::ShortOfMemory);
     line.say_last(fixed(Fixed::FatalMemory));
@@ -140,5 +142,6 @@ fn gate_fixed(refusal: GateNo) -> Fixed
             ..
         } => Fixed::ShuttingDown,
         GateNo::TooMany { .. } => Fixed::TooManyClients,
+        GateNo::Reserved { .. } => Fixed::ReservedConnections,
     }
 }

@@ -15,27 +15,26 @@ use std::sync::Wait;
 /// The bytes of a message's type and length.
 const HEADER: usize = 5;
 
-impl<L: Link, F: Life> Desk<L, F> {
+impl<L: Link, W: Store + Life> Desk<L, W> {
     /// Answers the client's queries up to its session's end, and tells by what it ended.
-    pub(crate) fn converse<R: Wait, S: Store, C: Clock>(
+    pub(crate) fn converse<R: Wait, C: Clock>(
         &mut self,
         means: &Means<'_, R, C>,
         inbox: &mut Inbox,
-        store: &mut S,
-        pass: &mut S::Pass,
+        pass: &mut W::Pass,
     ) -> Cause
-        requires admits { S.admits store.old pass.old }
+        requires admits { W.admits self.old.work pass.old }
         requires empty { self.old.outbox.bytes ≡ [] }
-        ensures talks { Talked S.Store (C.gives means.now.clock.now) pass.old result
-            (at_desk self.old inbox.old store.old) (at_desk self.new inbox.new store.new) }
+        ensures talks { Talked W.Store.own (C.gives means.now.clock.now) pass.old result
+            (at_desk self.old inbox.old) (at_desk self.new inbox.new) }
         ensures cause { ShowsCause result self.old.link self.new.link self.new.child }
         ensures holds { IsSound false self.old.link.traffic → IsLeftFor result self.new.link.traffic }
-        ensures admits { S.admits store.new pass.new }
-        ensures user { KeepsUser S.Store store.old pass.old store.new pass.new }
-        ensures overtaken { IsOvertakenBy (S.met store.new) (S.view pass.old).generation result }
+        ensures admits { W.admits self.new.work pass.new }
+        ensures user { KeepsUser W.Store.own self.old.work pass.old self.new.work pass.new }
+        ensures overtaken { IsOvertakenBy (W.met self.new.work) (W.view pass.old).generation result }
     {
         for _ in means.rt.forever() {
-            if let Err(cause) = self.step(means, inbox, store, pass) {
+            if let Err(cause) = self.step(means, inbox, pass) {
                 return cause;
             }
         }
@@ -43,22 +42,21 @@ impl<L: Link, F: Life> Desk<L, F> {
     }
 
     // Takes one message; or waits for more of it, where not all of it is there.
-    fn step<R: Wait, S: Store, C: Clock>(
+    fn step<R: Wait, C: Clock>(
         &mut self,
         means: &Means<'_, R, C>,
         inbox: &mut Inbox,
-        store: &mut S,
-        pass: &mut S::Pass,
+        pass: &mut W::Pass,
     ) -> Result<(), Cause>
-        requires admits { S.admits store.old pass.old }
+        requires admits { W.admits self.old.work pass.old }
         requires empty { self.old.outbox.bytes ≡ [] }
-        ensures talks { Talks S.Store (C.gives means.now.clock.now) pass.old result
-            (at_desk self.old inbox.old store.old) (at_desk self.new inbox.new store.new) }
+        ensures talks { Talks W.Store.own (C.gives means.now.clock.now) pass.old result
+            (at_desk self.old inbox.old) (at_desk self.new inbox.new) }
         ensures cause { GoesOrShows result self.old.link self.new.link self.new.child }
         ensures holds { Holds false result self.old.link self.new.link }
-        ensures admits { S.admits store.new pass.new }
-        ensures user { KeepsUser S.Store store.old pass.old store.new pass.new }
-        ensures overtaken { OvertakesBy (S.met store.new) (S.view pass.old).generation result }
+        ensures admits { W.admits self.new.work pass.new }
+        ensures user { KeepsUser W.Store.own self.old.work pass.old self.new.work pass.new }
+        ensures overtaken { OvertakesBy (W.met self.new.work) (W.view pass.old).generation result }
         ensures empty { OnOk result (self.new.outbox.bytes ≡ []) }
     {
         self.line.heed()?;
@@ -73,7 +71,7 @@ impl<L: Link, F: Life> Desk<L, F> {
                 Err(Cause::MessageRefused(MessageFault::BadLength { seen }))
             }
             Take::Whole { value, used } => {
-                let goes = self.take_message(means, store, pass, value);
+                let goes = self.take_message(means, pass, value);
                 inbox.pass(used);
                 goes
             }
@@ -81,28 +79,27 @@ impl<L: Link, F: Life> Desk<L, F> {
     }
 
     // Answers a query. Any other message ends the session.
-    fn take_message<R: Wait, S: Store, C: Clock>(
+    fn take_message<R: Wait, C: Clock>(
         &mut self,
         means: &Means<'_, R, C>,
-        store: &mut S,
-        pass: &mut S::Pass,
+        pass: &mut W::Pass,
         message: Front<'_>,
     ) -> Result<(), Cause>
-        requires admits { S.admits store.old pass.old }
+        requires admits { W.admits self.old.work pass.old }
         requires empty { self.old.outbox.bytes ≡ [] }
         requires text { HasQueryText (front_message message) }
-        ensures goes { Takes S.Store (C.gives means.now.clock.now) pass.old
-            (front_message message.entry) result (at_desk self.old [] store.old)
-            (at_desk self.new [] store.new) }
+        ensures goes { Takes W.Store.own (C.gives means.now.clock.now) pass.old
+            (front_message message.entry) result (at_desk self.old [])
+            (at_desk self.new []) }
         ensures cause { GoesOrShows result self.old.link self.new.link self.new.child }
         ensures holds { Holds false result self.old.link self.new.link }
-        ensures admits { S.admits store.new pass.new }
-        ensures user { KeepsUser S.Store store.old pass.old store.new pass.new }
-        ensures overtaken { OvertakesBy (S.met store.new) (S.view pass.old).generation result }
+        ensures admits { W.admits self.new.work pass.new }
+        ensures user { KeepsUser W.Store.own self.old.work pass.old self.new.work pass.new }
+        ensures overtaken { OvertakesBy (W.met self.new.work) (W.view pass.old).generation result }
         ensures empty { OnOk result (self.new.outbox.bytes ≡ []) }
     {
         match message {
-            Front::Query(text) => self.reply_to(means, store, pass, text),
+            Front::Query(text) => self.reply_to(means, pass, text),
             Front::Terminate => Err(Cause::Terminated),
             Front::BadQuery => Err(Cause::MessageRefused(MessageFault::BadForm)),
             Front::LongQuery { seen } => {
@@ -114,26 +111,25 @@ impl<L: Link, F: Life> Desk<L, F> {
     }
 
     // Answers a query, and sends the answer.
-    fn reply_to<R: Wait, S: Store, C: Clock>(
+    fn reply_to<R: Wait, C: Clock>(
         &mut self,
         means: &Means<'_, R, C>,
-        store: &mut S,
-        pass: &mut S::Pass,
+        pass: &mut W::Pass,
         text: &[u8],
     ) -> Result<(), Cause>
-        requires admits { S.admits store.old pass.old }
+        requires admits { W.admits self.old.work pass.old }
         requires empty { self.old.outbox.bytes ≡ [] }
         requires text { IsQueryString text.now }
-        ensures goes { Replies S.Store (C.gives means.now.clock.now) pass.old text.now
-            result (at_desk self.old [] store.old) (at_desk self.new [] store.new) }
+        ensures goes { Replies W.Store.own (C.gives means.now.clock.now) pass.old text.now
+            result (at_desk self.old []) (at_desk self.new []) }
         ensures cause { GoesOrShows result self.old.link self.new.link self.new.child }
         ensures holds { Holds false result self.old.link self.new.link }
-        ensures admits { S.admits store.new pass.new }
-        ensures user { KeepsUser S.Store store.old pass.old store.new pass.new }
-        ensures overtaken { OvertakesBy (S.met store.new) (S.view pass.old).generation result }
+        ensures admits { W.admits self.new.work pass.new }
+        ensures user { KeepsUser W.Store.own self.old.work pass.old self.new.work pass.new }
+        ensures overtaken { OvertakesBy (W.met self.new.work) (W.view pass.old).generation result }
         ensures empty { OnOk result (self.new.outbox.bytes ≡ []) }
     {
-        let answer = self.line.answer_to(means, store, pass, text)?;
+        let answer = self.line.answer_to(means, pass, text)?;
         self.say_answer(&answer)
     }
 }

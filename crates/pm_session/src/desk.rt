@@ -5,7 +5,7 @@ ghost use Rattle.pm_wire.specs.{Outgoing.room, Backend.{back_message, spelling, 
 ghost use Rattle.pm_wire.specs.declared.back.Tag.TheVariants as tags;
 ghost use Rattle.pm_session_exchange.specs.{pm_query.Limits.{HasShortValues, IsShortRow}, Sent.{item_messages, row_messages, fault_state}, Answers.{IsSayable, piece_of}, Room.{buffer_bytes, IsFaultString}};
 ghost use Rattle.pm_session_exchange.specs.pm_query.declared.item.Item.TheVariants as items;
-ghost use Rattle.pm_session.specs.Turns.{Says};
+ghost use Rattle.pm_session.specs.Turns.{Says, without_work};
 
 use itoa::Buffer;
 use pm_child_life::Life;
@@ -30,27 +30,28 @@ const ROW_MESSAGE: usize = 8_227;
 const LONGEST_MESSAGE: usize = 65_606;
 
 /// The line, and what is to be sent on it. It has room for any message that is said.
-pub struct Desk<L: Link, F: Life> {
-    pub(crate) line: Line<L, F>,
+pub struct Desk<L: Link, W: Life> {
+    pub(crate) line: Line<L, W>,
     pub(crate) outbox: Outbox,
 }
 
-impl<L: Link, F: Life> Model for Desk<L, F> {
+impl<L: Link, W: Life> Model for Desk<L, W> {
     ghost use Rattle.std.specs.Prelude.{◌≤◌};
     ghost use Rattle.pm_session_exchange.specs.Room.{buffer_bytes};
-    ghost use Rattle.pm_session.specs.Turns.{Desk as DeskView};
+    ghost use Rattle.pm_session.specs.Turns.{DeskView};
 
-    ghost Value = { DeskView };
+    ghost Value = { DeskView W };
 
-    ghost view = { λ d. record { link = d.line.link; outbox = d.outbox; child = d.line.child } };
+    ghost view = { λ d. record { link = d.line.link; outbox = d.outbox; work = d.line.work; child = d.line.child } };
 
     ghost invariant = { λ d. buffer_bytes ≤ d.outbox.capacity };
 }
 
-impl<L: Link, F: Life> Desk<L, F> {
-    pub(crate) fn new(line: Line<L, F>, outbox: Outbox) -> Desk<L, F>
+impl<L: Link, W: Life> Desk<L, W> {
+    pub(crate) fn new(line: Line<L, W>, outbox: Outbox) -> Desk<L, W>
         requires room { buffer_bytes ≤ outbox.capacity }
         ensures link { result.link ≡ line.link }
+        ensures work { result.work ≡ line.work }
         ensures child { result.child ≡ line.child }
         ensures outbox { result.outbox ≡ outbox }
     {
@@ -58,8 +59,9 @@ impl<L: Link, F: Life> Desk<L, F> {
     }
 
     /// The line, given back.
-    pub(crate) fn into_line(self) -> Line<L, F>
+    pub(crate) fn into_line(self) -> Line<L, W>
         ensures link { result.link ≡ self.link }
+        ensures work { result.work ≡ self.work }
         ensures child { result.child ≡ self.child }
     {
         let Desk { line, outbox: _ } = self;
@@ -69,8 +71,9 @@ impl<L: Link, F: Life> Desk<L, F> {
     /// Says an answer, and sends all of it.
     pub(crate) fn say_answer(&mut self, answer: &Answer) -> Result<(), Cause>
         requires sayable { IsSayable answer.now }
-        ensures says { Says result (piece_of answer.now) self.old self.new }
+        ensures says { Says result (piece_of answer.now) (without_work self.old) (without_work self.new) }
         ensures empty { OnOk result (self.new.outbox.bytes ≡ []) }
+        ensures rests { W.rests self.old.work self.new.work }
     {
         self.say_piece(answer)?;
         self.flush()
@@ -78,8 +81,9 @@ impl<L: Link, F: Life> Desk<L, F> {
 
     // Sends what stands in the outbox.
     fn flush(&mut self) -> Result<(), Cause>
-        ensures says { Says result [] self.old self.new }
+        ensures says { Says result [] (without_work self.old) (without_work self.new) }
         ensures empty { OnOk result (self.new.outbox.bytes ≡ []) }
+        ensures rests { W.rests self.old.work self.new.work }
     {
         self.line.send(self.outbox.as_slice())?;
         self.outbox.clear();
@@ -89,7 +93,8 @@ impl<L: Link, F: Life> Desk<L, F> {
     // Says an answer.
     fn say_piece(&mut self, answer: &Answer) -> Result<(), Cause>
         requires sayable { IsSayable answer.now }
-        ensures says { Says result (piece_of answer.now) self.old self.new }
+        ensures says { Says result (piece_of answer.now) (without_work self.old) (without_work self.new) }
+        ensures rests { W.rests self.old.work self.new.work }
     {
         match answer {
             Answer::Ran(released) => self.say_reply(released),
@@ -104,8 +109,9 @@ impl<L: Link, F: Life> Desk<L, F> {
     // The messages of each item in order, and then ReadyForQuery. No reply of a script is said but here.
     fn say_reply(&mut self, released: &Released) -> Result<(), Cause>
         requires short { All HasShortValues released.now }
-        ensures says { Says result (flat_map item_messages released.now ++ Ready ∷ []) self.old
-            self.new }
+        ensures says { Says result (flat_map item_messages released.now ++ Ready ∷ []) (without_work self.old)
+            (without_work self.new) }
+        ensures rests { W.rests self.old.work self.new.work }
     {
         for item in released.reply().items() {
             self.say_item(item)?;
@@ -116,7 +122,8 @@ impl<L: Link, F: Life> Desk<L, F> {
     // Says why a text is no script.
     fn say_fault(&mut self, fault: SqlFault, message: &str) -> Result<(), Cause>
         requires text { IsFaultString message.now }
-        ensures says { Says result (error (fault_state fault) message.now None ∷ Ready ∷ []) self.old self.new }
+        ensures says { Says result (error (fault_state fault) message.now None ∷ Ready ∷ []) (without_work self.old) (without_work self.new) }
+        ensures rests { W.rests self.old.work self.new.work }
     {
         let report = Report {
             severity: Severity::Error,
@@ -131,7 +138,8 @@ impl<L: Link, F: Life> Desk<L, F> {
 
     // Says why a query has no reply.
     fn say_refusal(&mut self, fixed: Fixed) -> Result<(), Cause>
-        ensures says { Says result (fixed_message fixed ∷ Ready ∷ []) self.old self.new }
+        ensures says { Says result (fixed_message fixed ∷ Ready ∷ []) (without_work self.old) (without_work self.new) }
+        ensures rests { W.rests self.old.work self.new.work }
     {
         self.say_told(Condition::Fixed(fixed))?;
         self.say_plain(Back::Ready)
@@ -140,7 +148,8 @@ impl<L: Link, F: Life> Desk<L, F> {
     // Says what one statement answered.
     fn say_item(&mut self, item: &Item) -> Result<(), Cause>
         requires short { HasShortValues item.now }
-        ensures says { Says result (item_messages item.now) self.old self.new }
+        ensures says { Says result (item_messages item.now) (without_work self.old) (without_work self.new) }
+        ensures rests { W.rests self.old.work self.new.work }
     {
         match item {
             Item::Empty => self.say_plain(Back::Empty),
@@ -159,7 +168,8 @@ impl<L: Link, F: Life> Desk<L, F> {
     // Says rows: their columns, each row, and their number.
     fn say_rows(&mut self, rows: &[(i64, Text)]) -> Result<(), Cause>
         requires short { All IsShortRow rows.now }
-        ensures says { Says result (row_messages rows.now) self.old self.new }
+        ensures says { Says result (row_messages rows.now) (without_work self.old) (without_work self.new) }
+        ensures rests { W.rests self.old.work self.new.work }
     {
         self.say_plain(Back::Fields(Shape::Pair))?;
         for (key, value) in rows {
@@ -171,7 +181,8 @@ impl<L: Link, F: Life> Desk<L, F> {
     // Says one row.
     fn say_row(&mut self, key: i64, value: &str) -> Result<(), Cause>
         requires short { length value.now ≤ 8192 }
-        ensures says { Says result (Pair key value.now ∷ []) self.old self.new }
+        ensures says { Says result (Pair key value.now ∷ []) (without_work self.old) (without_work self.new) }
+        ensures rests { W.rests self.old.work self.new.work }
     {
         back_messages_have_a_longest();
         self.say(Back::Pair { key, value }, ROW_MESSAGE)
@@ -179,7 +190,8 @@ impl<L: Link, F: Life> Desk<L, F> {
 
     // Says how many rows there are.
     fn say_count(&mut self, count: u64) -> Result<(), Cause>
-        ensures says { Says result (item_messages (items.Count count)) self.old self.new }
+        ensures says { Says result (item_messages (items.Count count)) (without_work self.old) (without_work self.new) }
+        ensures rests { W.rests self.old.work self.new.work }
     {
         let mut digits = Buffer::new();
         self.say_one(Shape::Count, digits.format(count))
@@ -188,7 +200,8 @@ impl<L: Link, F: Life> Desk<L, F> {
     // Says a row of one column.
     fn say_one(&mut self, shape: Shape, text: &str) -> Result<(), Cause>
         requires short { length text.now ≤ 40 }
-        ensures says { Says result (Fields shape ∷ One text.now ∷ Complete (tags.Select 1) ∷ []) self.old self.new }
+        ensures says { Says result (Fields shape ∷ One text.now ∷ Complete (tags.Select 1) ∷ []) (without_work self.old) (without_work self.new) }
+        ensures rests { W.rests self.old.work self.new.work }
     {
         self.say_plain(Back::Fields(shape))?;
         self.say_plain(Back::One { text })?;
@@ -199,7 +212,8 @@ impl<L: Link, F: Life> Desk<L, F> {
     fn say_told(&mut self, condition: Condition) -> Result<(), Cause>
         requires given { IsGiven condition }
         requires short { longest_told condition ≤ 140 }
-        ensures says { Says result (told condition.entry ∷ []) self.old self.new }
+        ensures says { Says result (told condition.entry ∷ []) (without_work self.old) (without_work self.new) }
+        ensures rests { W.rests self.old.work self.new.work }
     {
         conditions_can_be_told();
         self.say(Back::Told(condition), SHORT_MESSAGE)
@@ -210,7 +224,8 @@ impl<L: Link, F: Life> Desk<L, F> {
         requires writable { IsWritable (back_message message) }
         requires sizes { HasSizes (back_message message) }
         requires short { longest (back_message message) ≤ 140 }
-        ensures says { Says result (back_message message.entry ∷ []) self.old self.new }
+        ensures says { Says result (back_message message.entry ∷ []) (without_work self.old) (without_work self.new) }
+        ensures rests { W.rests self.old.work self.new.work }
     {
         back_messages_have_a_longest();
         self.say(message, SHORT_MESSAGE)
@@ -221,7 +236,8 @@ impl<L: Link, F: Life> Desk<L, F> {
         requires writable { IsWritable (back_message message) }
         requires most { length (spelling (back_message message)) ≤ most }
         requires fits { most ≤ buffer_bytes }
-        ensures says { Says result (back_message message.entry ∷ []) self.old self.new }
+        ensures says { Says result (back_message message.entry ∷ []) (without_work self.old) (without_work self.new) }
+        ensures rests { W.rests self.old.work self.new.work }
     {
         self.make_room(most)?;
         message.put(&mut self.outbox);
@@ -231,8 +247,9 @@ impl<L: Link, F: Life> Desk<L, F> {
     // Has room for so many bytes in the outbox: where they are more than it has, what stands there is sent first.
     fn make_room(&mut self, most: usize) -> Result<(), Cause>
         requires fits { most ≤ buffer_bytes }
-        ensures says { Says result [] self.old self.new }
+        ensures says { Says result [] (without_work self.old) (without_work self.new) }
         ensures room { OnOk result (most ≤ room self.new.outbox) }
+        ensures rests { W.rests self.old.work self.new.work }
     {
         if most <= self.outbox.room() {
             return Ok(());

@@ -1,6 +1,6 @@
 //! One connection from its first byte to its end.
 ghost use Rattle.std.specs.Prelude.{◌≡◌, ◌≤◌, ◌+◌, ◌++◌, false, [], length, None, Some, Ok, OnOk, IfOk, IfSome, IsTrue};
-ghost use Rattle.pm_session_exchange.specs.{pm_query.pm_facts.Zeros.HasNoZero, pm_outside.Traffic.IsFresh, pm_child_life.{Life.IsUntried, Attention.Hears}, Exchange.{Holds, Sends}, Moments.{GoesOrBreaks, IsUntold}, Sent.{bytes_of, greeting}, Room.buffer_bytes, Answers.{KeepsUser, IsOvertakenBy}};
+ghost use Rattle.pm_session_exchange.specs.{pm_query.pm_facts.Zeros.HasNoZero, pm_outside.Traffic.IsFresh, pm_child_life.{Life.{IsUntried, answer_met}, Attention.{HasAsked, Hears}}, Exchange.{Holds, Sends}, Moments.{GoesOrBreaks, IsUntold}, Sent.{bytes_of, greeting}, Room.buffer_bytes, Answers.{KeepsUser, IsOvertakenBy}};
 ghost use Rattle.pm_wire.specs.Backend.{spelling, Param};
 ghost use Rattle.pm_session.specs.{Session.{HasServed, Heeds}, Entry.{Admitted, Connected, Entered, Inside, CanRefuseEntry, refusal_cause}, Turns.at_desk};
 
@@ -41,36 +41,35 @@ pub struct Admission {
 }
 
 /// Serves one connection to its end.
-pub fn serve<R: Wait, L: Link, S: Store, C: Clock, F: Life>(
+pub fn serve<R: Wait, L: Link, W: Store + Life, C: Clock>(
     means: &Means<'_, R, C>,
     link: L,
-    life: F,
+    work: W,
     admission: Admission,
     conf: &SessionConf,
-    store: &mut S,
-) -> Done<L, F>
+) -> Done<L, W>
     requires fresh { IsFresh (L.traffic link) }
-    requires free { (F.child life).attached ≡ None }
-    requires may { admission.decision ≡ Cac.Ok → ¬ (IsTrue (F.child life).is_dead_end) }
-    requires untold { IsUntold (F.told life) }
+    requires free { (W.child work).attached ≡ None }
+    requires may { admission.decision ≡ Cac.Ok → ¬ (IsTrue (W.child work).is_dead_end) }
+    requires untold { IsUntold (W.told work) }
     // What came in, what went out and what this child noted are those of one session; its ending has its causes and its
     // status.
-    ensures session { HasServed S.Store L.Link F.Life admission conf.now
-        (C.gives means.now.clock.now) link life store.old result store.new }
+    ensures session { HasServed W.Store.own W.Seat L.Link admission conf.now
+        (C.gives means.now.clock.now) link work result }
     // What it was given it has heeded.
-    ensures heeds { Heeds result.status (F.told result.life) }
+    ensures heeds { Heeds result.status (W.told result.work) }
     ensures number { L.number result.link ≡ L.number link }
     ensures link_faults { L.faults link ≤ L.faults result.link }
 {
     let began = means.clock.now();
-    let mut line = Line::new(link, Ear::new(life));
+    let mut line = Line::new(link, Ear::new(work));
     let Ok((mut inbox, outbox)) = buffers(means.alloc) else {
         let exit = close_short_of_memory(&mut line, admission.decision);
         return line.done(exit);
     };
     let mut desk = Desk::new(line, outbox);
     let limit = conf.authentication_ms;
-    let exit = desk.session(means, &mut inbox, admission, began, limit, store);
+    let exit = desk.session(means, &mut inbox, admission, began, limit);
     desk.into_line().done(exit)
 }
 
@@ -83,16 +82,15 @@ fn buffers(alloc: Global) -> Result<(Inbox, Outbox), AllocError>
     Ok((inbox, outbox))
 }
 
-impl<L: Link, F: Life> Desk<L, F> {
+impl<L: Link, W: Store + Life> Desk<L, W> {
     // From its first byte on, by what the child exits.
-    fn session<R: Wait, S: Store, C: Clock>(
+    fn session<R: Wait, C: Clock>(
         &mut self,
         means: &Means<'_, R, C>,
         inbox: &mut Inbox,
         admission: Admission,
         began: u64,
         limit: u64,
-        store: &mut S,
     ) -> Cause
         requires fresh { IsFresh self.old.link.traffic }
         requires free { self.old.child.child.attached ≡ None }
@@ -101,33 +99,33 @@ impl<L: Link, F: Life> Desk<L, F> {
         requires unread { inbox.old ≡ [] }
         requires began { C.gives means.now.clock.now began }
         requires empty { self.old.outbox.bytes ≡ [] }
-        ensures session { Connected S.Store admission
-            (C.gives means.now.clock.now) limit result (at_desk self.old inbox.old store.old)
-            (at_desk self.new inbox.new store.new) }
+        ensures session { Connected W.Store.own admission
+            (C.gives means.now.clock.now) limit result (at_desk self.old inbox.old)
+            (at_desk self.new inbox.new) }
         ensures number { self.new.link.number ≡ self.old.link.number }
         ensures link_faults { self.old.link.faults ≤ self.new.link.faults }
     {
         match startup(&mut self.line, means, inbox, began, limit) {
-            Ok(()) => self.admit(means, inbox, admission, store),
+            Ok(is_ordinary) => self.admit(means, inbox, admission, is_ordinary),
             Err(cause) => self.close(admission.decision, Stage::Outside, cause),
         }
     }
 
-    // After the startup packet: the decision, and the gate.
-    fn admit<R: Wait, S: Store, C: Clock>(
+    // After the startup packet: the decision, and the gate, where the reserved places are kept from an ordinary user.
+    fn admit<R: Wait, C: Clock>(
         &mut self,
         means: &Means<'_, R, C>,
         inbox: &mut Inbox,
         admission: Admission,
-        store: &mut S,
+        is_ordinary: bool,
     ) -> Cause
         requires free { self.old.child.child.attached ≡ None }
         requires may { admission.decision ≡ Cac.Ok → ¬ (IsTrue self.old.child.child.is_dead_end) }
         requires untried { IsUntried self.old.child.told }
         requires empty { self.old.outbox.bytes ≡ [] }
-        ensures serves { Admitted S.Store admission
-            (C.gives means.now.clock.now) result (at_desk self.old inbox.old store.old)
-            (at_desk self.new inbox.new store.new) }
+        ensures serves { Admitted W.Store.own admission is_ordinary
+            (C.gives means.now.clock.now) result (at_desk self.old inbox.old)
+            (at_desk self.new inbox.new) }
     {
         let Cac::Ok = admission.decision else {
             return self.close(admission.decision, Stage::Outside, Cause::DecisionRefused);
@@ -135,9 +133,9 @@ impl<L: Link, F: Life> Desk<L, F> {
         if let Err(cause) = self.line.heed() {
             return self.close(Cac::Ok, Stage::Outside, cause);
         }
-        match self.line.attach() {
+        match self.line.attach(is_ordinary) {
             Ok(generation) => {
-                let exit = self.attached(means, inbox, admission.key, store, generation);
+                let exit = self.attached(means, inbox, admission.key, generation);
                 if exit.lets_go() {
                     self.line.detach();
                 }
@@ -148,62 +146,63 @@ impl<L: Link, F: Life> Desk<L, F> {
     }
 
     // Through the gate: the store.
-    fn attached<R: Wait, S: Store, C: Clock>(
+    fn attached<R: Wait, C: Clock>(
         &mut self,
         means: &Means<'_, R, C>,
         inbox: &mut Inbox,
         key: u32,
-        store: &mut S,
         generation: u32,
     ) -> Cause
-        requires met { IfSome self.old.child.told (λ t. t.met ≡ Some (Ok generation)) }
+        requires met { IfSome self.old.child.told (λ t. answer_met t ≡ Some (Ok generation)) }
         requires empty { self.old.outbox.bytes ≡ [] }
-        ensures serves { Entered S.Store key generation
-            (C.gives means.now.clock.now) result (at_desk self.old inbox.old store.old)
-            (at_desk self.new inbox.new store.new) }
+        ensures serves { Entered W.Store.own key generation
+            (C.gives means.now.clock.now) result (at_desk self.old inbox.old)
+            (at_desk self.new inbox.new) }
         ensures child { self.new.child.child ≡ self.old.child.child }
-        ensures overtaken { IsOvertakenBy (S.met store.new) generation result }
+        ensures gate { HasAsked 0 self.old.child.told self.new.child.told }
+        ensures overtaken { IsOvertakenBy (W.met self.new.work) generation result }
     {
         if let Err(cause) = self.line.heed() {
             return self.close(Cac::Ok, Stage::Entering, cause);
         }
-        let mut pass = match store.enter(self.line.pid(), generation) {
+        let pid = self.line.pid();
+        let mut pass = match self.line.enter(pid, generation) {
             Ok(pass) => pass,
             Err(no) => {
                 return self.close(Cac::Ok, Stage::Entering, refusal_cause(no));
             }
         };
-        let exit = self.entered(means, inbox, key, store, &mut pass);
+        let exit = self.entered(means, inbox, key, &mut pass);
         if exit.lets_go() {
-            store.leave(pass);
+            self.line.leave(pass);
         }
         exit
     }
 
     // In the store: the greeting, the queries, and the last words.
-    fn entered<R: Wait, S: Store, C: Clock>(
+    fn entered<R: Wait, C: Clock>(
         &mut self,
         means: &Means<'_, R, C>,
         inbox: &mut Inbox,
         key: u32,
-        store: &mut S,
-        pass: &mut S::Pass,
+        pass: &mut W::Pass,
     ) -> Cause
-        requires admits { S.admits store.old pass.old }
-        requires pid { self.old.child.child.pid ≡ (S.view pass.old).pid }
-        requires met { IfSome self.old.child.told (λ t. t.met ≡ Some
-            (Ok (S.view pass.old).generation)) }
+        requires admits { W.admits self.old.work pass.old }
+        requires pid { self.old.child.child.pid ≡ (W.view pass.old).pid }
+        requires met { IfSome self.old.child.told (λ t. answer_met t ≡ Some
+            (Ok (W.view pass.old).generation)) }
         requires empty { self.old.outbox.bytes ≡ [] }
-        ensures serves { Inside S.Store pass.old key
-            (C.gives means.now.clock.now) result (at_desk self.old inbox.old store.old)
-            (at_desk self.new inbox.new store.new) }
+        ensures serves { Inside W.Store.own pass.old key
+            (C.gives means.now.clock.now) result (at_desk self.old inbox.old)
+            (at_desk self.new inbox.new) }
         ensures child { self.new.child.child ≡ self.old.child.child }
-        ensures admits { S.admits store.new pass.new }
-        ensures user { KeepsUser S.Store store.old pass.old store.new pass.new }
-        ensures overtaken { IsOvertakenBy (S.met store.new) (S.view pass.old).generation result }
+        ensures gate { HasAsked 0 self.old.child.told self.new.child.told }
+        ensures admits { W.admits self.new.work pass.new }
+        ensures user { KeepsUser W.Store.own self.old.work pass.old self.new.work pass.new }
+        ensures overtaken { IsOvertakenBy (W.met self.new.work) (W.view pass.old).generation result }
     {
         let cause = match self.greet(key) {
-            Ok(()) => self.converse(means, inbox, store, pass),
+            Ok(()) => self.converse(means, inbox, pass),
             Err(cause) => cause,
         };
         self.close(Cac::Ok, Stage::Greeted, cause)
@@ -218,6 +217,7 @@ impl<L: Link, F: Life> Desk<L, F> {
         ensures cause { GoesOrBreaks result self.old.link self.new.link self.new.child }
         ensures holds { Holds false result self.old.link self.new.link }
         ensures empty { OnOk result (self.new.outbox.bytes ≡ []) }
+        ensures rests { W.rests self.old.work self.new.work }
     {
         put_greeting(&mut self.outbox, self.line.pid(), key);
         self.line.send(self.outbox.as_slice())?;

@@ -1,7 +1,7 @@
 //! The start of a connection: requests for encryption, each refused by `N`, up to the packet that starts the session.
 ghost use Rattle.std.specs.Prelude.{◌≡◌, ℕ, List, [], Ok, IsTrue};
 ghost use Rattle.pm_session_exchange.specs.{pm_startup.Grammar.{content_of, FrontDecides}, pm_child_life.Life.HasNoCancel, Moments.outside};
-ghost use Rattle.pm_session.specs.{Entry.{AsksFor, Enters}, Session.IsApart};
+ghost use Rattle.pm_session.specs.{Entry.{AsksFor, Enters}, Session.{IsApart, is_ordinary_user}};
 
 use pm_child_life::Life;
 use pm_outside::{Clock, Link};
@@ -12,6 +12,9 @@ use std::sync::Wait;
 /// The answer to a request for encryption.
 const NO_ENCRYPTION: &[u8] = b"N";
 
+/// The user who may take the reserved places.
+const SUPERUSER: &[u8] = b"postgres";
+
 /// What the bytes that came so far ask for.
 #[derive(Clone, Copy)]
 enum Ask {
@@ -19,30 +22,31 @@ enum Ask {
     Nothing,
     /// Encryption, by so many bytes; the connection is in this phase then.
     Encryption { behind: Phase, used: usize },
-    /// A session, by so many bytes.
-    Start { used: usize },
+    /// A session of an ordinary user or of the superuser, by so many bytes.
+    Start { used: usize, is_ordinary: bool },
     /// That another query be cancelled.
     Cancel { pid: u32, key: u32 },
     /// Nothing that is served.
     Refused(StartFault),
 }
 
-/// Reads packets until one starts the session. Any other end of it is an error. After each read that leaves the packet
-/// unfinished, whether or not bytes came, it looks at its clock: at the limit of time, in milliseconds since the session
-/// began, it gives the client up. A packet that is whole starts the session, however late.
-pub(crate) fn startup<R: Wait, L: Link, C: Clock, F: Life>(
-    line: &mut Line<L, F>,
+/// Reads packets until one starts the session, and tells whether its user is an ordinary one. Any other end of it is an error.
+/// After each read that leaves the packet unfinished, whether or not bytes came, it looks at its clock: at the limit of time, in
+/// milliseconds since the session began, it gives the client up. A packet that is whole starts the session, however late.
+pub(crate) fn startup<R: Wait, L: Link, C: Clock, W: Life>(
+    line: &mut Line<L, W>,
     means: &Means<'_, R, C>,
     inbox: &mut Inbox,
     began: u64,
     limit: u64,
-) -> Result<(), Cause>
+) -> Result<bool, Cause>
     requires empty { inbox.old ≡ [] }
     requires none { HasNoCancel line.old.child.told }
     requires began { C.gives means.now.clock.now began }
     ensures enters { Enters (C.gives means.now.clock.now) limit result
         (outside line.old.link inbox.old line.old.child)
         (outside line.new.link inbox.new line.new.child) }
+    ensures rests { W.rests line.old.work line.new.work }
 {
     let mut phase = Phase {
         ssl_used: false,
@@ -65,9 +69,9 @@ pub(crate) fn startup<R: Wait, L: Link, C: Clock, F: Life>(
                 phase = behind;
                 line.send(NO_ENCRYPTION)?;
             }
-            Ask::Start { used } => {
+            Ask::Start { used, is_ordinary } => {
                 inbox.pass(used);
-                return Ok(());
+                return Ok(is_ordinary);
             }
             Ask::Cancel { pid, key } => {
                 line.cancel(pid, key);
@@ -105,11 +109,24 @@ fn asked_by_packet(phase: Phase, packet: &Packet, used: usize) -> Ask
 {
     match next(phase, packet) {
         Step::SayNo(behind) => Ask::Encryption { behind, used },
-        Step::Start => Ask::Start { used },
+        Step::Start => match *packet {
+            Packet::Start { user } => Ask::Start {
+                used,
+                is_ordinary: is_ordinary_user(user),
+            },
+            _ => unreachable!(),
+        },
         Step::Refuse(fault) => Ask::Refused(fault),
         Step::Cancel => match *packet {
             Packet::Cancel { pid, key } => Ask::Cancel { pid, key },
             _ => unreachable!(),
         },
     }
+}
+
+// Whether the reserved places are kept from this user. A name counts byte by byte.
+fn is_ordinary_user(user: &[u8]) -> bool
+    ensures { result ≡ is_ordinary_user user.now }
+{
+    user != SUPERUSER
 }

@@ -116,6 +116,7 @@ gate_refusal (gate.Quit generation Crash) = one fixes.InRecovery
 gate_refusal (gate.Quit generation Stop) = one fixes.ShuttingDown
 gate_refusal (gate.NotReady generation) = one fixes.InRecovery
 gate_refusal (gate.TooMany count) = one fixes.TooManyClients
+gate_refusal (gate.Reserved count) = one fixes.ReservedConnections
 
 abbrev pub quit_notice : Reason → List BackMessage
 quit_notice Crash = one fixes.CrashQuit

@@ -8,62 +8,66 @@ use crate::ending::Cause;
 use pm_child_life::{GateNo, Life, Standing, listen};
 use std::marker::Model;
 
-/// A child's life, and the signals that it has taken and not heeded yet.
-pub struct Ear<F: Life> {
-    life: F,
+/// A child's work, and the signals that it has taken and not heeded yet.
+pub struct Ear<W: Life> {
+    pub(crate) work: W,
     standing: Standing,
 }
 
-impl<F: Life> Model for Ear<F> {
-    ghost use Rattle.pm_child_life.specs.Attention.{Attention, attention, IsAttentive};
+impl<W: Life> Model for Ear<W> {
+    ghost use Rattle.pm_child_life.specs.Attention.{attention, IsAttentive};
+    ghost use Rattle.pm_session_exchange.specs.Line.{EarView};
 
-    ghost Value = { Attention };
+    ghost Value = { EarView W };
 
-    ghost view = { λ e. attention (F.told e.life) (F.child e.life) e.standing };
+    ghost view = { λ e. record { work = e.work; child = attention (W.told e.work) (W.child e.work) e.standing } };
 
-    ghost invariant = { λ e. IsAttentive (attention (F.told e.life) (F.child e.life) e.standing) };
+    ghost invariant = { λ e. IsAttentive (attention (W.told e.work) (W.child e.work) e.standing) };
 }
 
-impl<F: Life> Ear<F> {
+impl<W: Life> Ear<W> {
     /// Of a child that has just started.
-    pub fn new(life: F) -> Ear<F>
-        requires untold { IsUntold (F.told life) }
-        ensures { result ≡ attention (F.told life) (F.child life) nothing_stands }
+    pub fn new(work: W) -> Ear<W>
+        requires untold { IsUntold (W.told work) }
+        ensures work { result.work ≡ work }
+        ensures child { result.child ≡ attention (W.told work) (W.child work) nothing_stands }
     {
         Ear {
-            life,
+            work,
             standing: Standing::none(),
         }
     }
 
-    /// The life, given back.
-    pub fn into_life(self) -> F
-        ensures told { F.told result ≡ self.told }
-        ensures child { F.child result ≡ self.child }
+    /// The work, given back.
+    pub fn into_work(self) -> W
+        ensures work { result ≡ self.work }
+        ensures told { W.told result ≡ self.child.told }
+        ensures child { W.child result ≡ self.child.child }
     {
-        let Ear { life, standing: _ } = self;
-        life
+        let Ear { work, standing: _ } = self;
+        work
     }
 
     /// Whose life it is.
     pub fn pid(&self) -> u32
-        ensures { result ≡ self.now.child.pid }
+        ensures { result ≡ self.now.child.child.pid }
     {
-        self.life.pid()
+        self.work.pid()
     }
 
     /// Takes the child's signals.
     pub fn listen(&mut self)
-        ensures hears { Hears 1 self.old self.new }
-        ensures attentive { IsAttentive self.new }
-        ensures cancel { CancelStands self.old self.new }
+        ensures hears { Hears 1 self.old.child self.new.child }
+        ensures attentive { IsAttentive self.new.child }
+        ensures cancel { CancelStands self.old.child self.new.child }
+        ensures rests { W.rests self.old.work self.new.work }
     {
-        listen(&mut self.life, &mut self.standing);
+        listen(&mut self.work, &mut self.standing);
     }
 
     /// By what a session has to end now, if it has to: by a Kill before a Quit, and by a Quit before a Terminate.
     pub fn ends(&self) -> Option<Cause>
-        ensures { result ≡ ends_of self.now.standing }
+        ensures { result ≡ ends_of self.now.child.standing }
     {
         ends(self.standing)
     }
@@ -71,7 +75,7 @@ impl<F: Life> Ear<F> {
     /// By what a wait for the log has to end now, if it has to: as a session, but a Terminate stands until the reply was
     /// sent.
     fn ends_wait(&self) -> Option<Cause>
-        ensures { result ≡ ends_by self.now.standing.kill self.now.standing.quit false }
+        ensures { result ≡ ends_by self.now.child.standing.kill self.now.child.standing.quit false }
     {
         ends(Standing {
             terminate: false,
@@ -81,25 +85,26 @@ impl<F: Life> Ear<F> {
 
     /// Whether a Kill stands.
     pub fn is_killed(&self) -> bool
-        ensures { result ≡ self.now.standing.kill }
+        ensures { result ≡ self.now.child.standing.kill }
     {
         self.standing.kill
     }
 
     /// Whether a cancel stands.
     pub fn is_cancelled(&self) -> bool
-        ensures { result ≡ self.now.standing.cancel }
+        ensures { result ≡ self.now.child.standing.cancel }
     {
         self.standing.cancel
     }
 
     /// Takes the child's signals, and tells by what the session has to end, if it has to.
     pub fn heed(&mut self) -> Result<(), Cause>
-        ensures hears { Hears 1 self.old self.new }
-        ensures attentive { IsAttentive self.new }
-        ensures ends { EndsIn result self.new.standing }
-        ensures stops { GoesOrStops result self.new }
-        ensures cancel { CancelStands self.old self.new }
+        ensures hears { Hears 1 self.old.child self.new.child }
+        ensures attentive { IsAttentive self.new.child }
+        ensures ends { EndsIn result self.new.child.standing }
+        ensures stops { GoesOrStops result self.new.child }
+        ensures cancel { CancelStands self.old.child self.new.child }
+        ensures rests { W.rests self.old.work self.new.work }
     {
         self.listen();
         match self.ends() {
@@ -110,9 +115,10 @@ impl<F: Life> Ear<F> {
 
     /// Takes the child's signals while it waits for the log. A Kill or a Quit ends the wait.
     pub fn heed_waiting(&mut self) -> Result<(), Cause>
-        ensures hears { Hears 1 self.old self.new }
-        ensures attentive { IsAttentive self.new }
-        ensures stops { IfErr result (λ cause. IsWaitEnd cause × IsHeeded cause self.new) }
+        ensures hears { Hears 1 self.old.child self.new.child }
+        ensures attentive { IsAttentive self.new.child }
+        ensures stops { IfErr result (λ cause. IsWaitEnd cause × IsHeeded cause self.new.child) }
+        ensures rests { W.rests self.old.work self.new.work }
     {
         self.listen();
         match self.ends_wait() {
@@ -123,38 +129,42 @@ impl<F: Life> Ear<F> {
 
     /// Drops a cancel that stands: it was taken before the query that begins now, and isn't for it.
     pub fn drop_cancel(&mut self)
-        ensures { self.new ≡ without_cancel self.old }
+        ensures child { self.new.child ≡ without_cancel self.old.child }
+        ensures work { self.new.work ≡ self.old.work }
     {
         self.standing.cancel = false;
     }
 
     /// Goes through the gate, as [`Life::attach`] does.
-    pub fn attach(&mut self) -> Result<u32, GateNo>
-        requires free { self.old.child.attached ≡ None }
-        requires may { ¬ (IsTrue self.old.child.is_dead_end) }
-        requires once { IsUntried self.old.told }
-        ensures meets { MeetsGate result self.old self.new }
+    pub fn attach(&mut self, is_ordinary: bool) -> Result<u32, GateNo>
+        requires free { self.old.child.child.attached ≡ None }
+        requires may { ¬ (IsTrue self.old.child.child.is_dead_end) }
+        requires once { IsUntried self.old.child.told }
+        ensures meets { MeetsGate is_ordinary result self.old.child self.new.child }
+        ensures rests { W.rests self.old.work self.new.work }
     {
-        self.life.attach()
+        self.work.attach(is_ordinary)
     }
 
     /// Goes out again.
     pub fn detach(&mut self)
-        requires { (generation : ℕ) × (self.old.child.attached ≡ Some generation) }
-        ensures child { self.new.child ≡ let_go self.old.child }
-        ensures told { self.new.told ≡ self.old.told }
+        requires { (generation : ℕ) × (self.old.child.child.attached ≡ Some generation) }
+        ensures child { self.new.child.child ≡ let_go self.old.child.child }
+        ensures told { self.new.child.told ≡ self.old.child.told }
+        ensures rests { W.rests self.old.work self.new.work }
     {
-        self.life.detach();
+        self.work.detach();
     }
 
     /// Asks that the query of another child be cancelled.
     pub fn cancel(&mut self, pid: u32, key: u32)
-        requires { HasNoCancel self.old.told }
-        ensures told { self.new.told ≡ option_map (asked_cancel pid key) self.old.told }
-        ensures child { self.new.child ≡ self.old.child }
-        ensures standing { self.new.standing ≡ self.old.standing }
+        requires { HasNoCancel self.old.child.told }
+        ensures told { self.new.child.told ≡ option_map (asked_cancel pid key) self.old.child.told }
+        ensures child { self.new.child.child ≡ self.old.child.child }
+        ensures standing { self.new.child.standing ≡ self.old.child.standing }
+        ensures rests { W.rests self.old.work self.new.work }
     {
-        self.life.cancel(pid, key);
+        self.work.cancel(pid, key);
     }
 }
 

@@ -9,15 +9,15 @@ use pm_child_life::Life;
 use pm_exit::Status;
 use pm_outside::Link;
 
-/// How a connection's child exits, and its link and its life, given back.
+/// How a connection's child exits, and its link and its work, given back.
 #[derive(Debug)]
-pub struct Done<L, F> {
+pub struct Done<L, W> {
     pub status: Status,
     pub link: L,
-    pub life: F,
+    pub work: W,
 }
 
-impl<L: Link, F: Life> Line<L, F> {
+impl<L: Link, W: Life> Line<L, W> {
     /// Takes the child's signals, and tells by what the session ends: a signal counts where the child would exit as if
     /// nothing had happened.
     pub fn last_cause(&mut self, cause: Cause) -> Cause
@@ -25,6 +25,7 @@ impl<L: Link, F: Life> Line<L, F> {
         ensures hears { Hears 1 self.old.child self.new.child }
         ensures attentive { IsAttentive self.new.child }
         ensures last { IsLastCause self.new.child.standing cause result }
+        ensures rests { W.rests self.old.work self.new.work }
     {
         self.ear.listen();
         match (cause.status(), self.ear.ends()) {
@@ -36,8 +37,9 @@ impl<L: Link, F: Life> Line<L, F> {
     /// Says the last words. A Kill breaks them off, a fault of the link is passed over, and after them the child takes
     /// its signals once more.
     pub fn say_last(&mut self, words: &[u8])
-        ensures { SaysLast words.now (outside self.old.link [] self.old.child)
+        ensures says { SaysLast words.now (outside self.old.link [] self.old.child)
             (outside self.new.link [] self.new.child) }
+        ensures rests { W.rests self.old.work self.new.work }
     {
         if words.is_empty() || self.ear.is_killed() {
             return;
@@ -57,18 +59,19 @@ impl<L: Link, F: Life> Line<L, F> {
         }
     }
 
-    /// The link and the life, given back, and how the child exits.
-    pub fn done(self, exit: Cause) -> Done<L, F>
+    /// The link and the work, given back, and how the child exits.
+    pub fn done(self, exit: Cause) -> Done<L, W>
         ensures status { result.status ≡ status_by exit }
         ensures link { self.link ≡ seen L.Link result.link }
-        ensures told { F.told result.life ≡ self.child.told }
-        ensures child { F.child result.life ≡ self.child.child }
+        ensures work { result.work ≡ self.work }
+        ensures told { W.told result.work ≡ self.child.told }
+        ensures child { W.child result.work ≡ self.child.child }
     {
         let Line { link, ear } = self;
         Done {
             status: exit.status(),
             link,
-            life: ear.into_life(),
+            work: ear.into_work(),
         }
     }
 }

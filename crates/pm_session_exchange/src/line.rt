@@ -12,24 +12,25 @@ use pm_outside::{Clock, Got, Link, Put};
 use std::marker::Model;
 use std::sync::Wait;
 
-/// The link to the client, and what the child hears.
-pub struct Line<L: Link, F: Life> {
+/// The link to the client, and the child's work with what it hears.
+pub struct Line<L: Link, W: Life> {
     pub(crate) link: L,
-    pub(crate) ear: Ear<F>,
+    pub(crate) ear: Ear<W>,
 }
 
-impl<L: Link, F: Life> Model for Line<L, F> {
+impl<L: Link, W: Life> Model for Line<L, W> {
     ghost use Rattle.pm_session_exchange.specs.{Exchange.link_view, Line.LineView};
 
-    ghost Value = { LineView };
+    ghost Value = { LineView W };
 
-    ghost view = { λ l. record { link = link_view (L.traffic l.link) (L.number l.link) (L.faults l.link); child = l.ear } };
+    ghost view = { λ l. record { link = link_view (L.traffic l.link) (L.number l.link) (L.faults l.link); work = l.ear.work; child = l.ear.child } };
 }
 
-impl<L: Link, F: Life> Line<L, F> {
-    pub fn new(link: L, ear: Ear<F>) -> Line<L, F>
+impl<L: Link, W: Life> Line<L, W> {
+    pub fn new(link: L, ear: Ear<W>) -> Line<L, W>
         ensures link { result.link ≡ seen L.Link link }
-        ensures child { result.child ≡ ear }
+        ensures work { result.work ≡ ear.work }
+        ensures child { result.child ≡ ear.child }
     {
         Line { link, ear }
     }
@@ -42,6 +43,7 @@ impl<L: Link, F: Life> Line<L, F> {
         ensures cause { GoesOrBreaks result self.old.link self.new.link self.new.child }
         ensures kill { result ≡ Err Cause.Killed → IsTrue self.new.child.standing.kill }
         ensures holds { (ended : Bool) → Holds ended result self.old.link self.new.link }
+        ensures rests { W.rests self.old.work self.new.work }
     {
         let mut rest = bytes;
         while !rest.is_empty() {
@@ -68,6 +70,7 @@ impl<L: Link, F: Life> Line<L, F> {
         ensures hears { Hears 1 self.old.child self.new.child }
         ensures cause { GoesOrBreaks result self.old.link self.new.link self.new.child }
         ensures holds { HoldsLooking result self.old.link self.new.link }
+        ensures rests { W.rests self.old.work self.new.work }
     {
         self.ear.listen();
         if let Some(cause) = self.ear.ends() {
@@ -92,6 +95,7 @@ impl<L: Link, F: Life> Line<L, F> {
         ensures hears { Hears 1 self.old.child self.new.child }
         ensures cause { GoesOrBreaks result self.old.link self.new.link self.new.child }
         ensures holds { Holds false result self.old.link self.new.link }
+        ensures rests { W.rests self.old.work self.new.work }
     {
         for _ in means.rt.forever() {
             match self.look(inbox) {
@@ -115,6 +119,7 @@ impl<L: Link, F: Life> Line<L, F> {
         ensures hears { Hears 0 self.old.child self.new.child }
         ensures cause { GoesOrShows result self.old.link self.new.link self.new.child }
         ensures holds { Holds false result self.old.link self.new.link }
+        ensures rests { W.rests self.old.work self.new.work }
     {
         while inbox.unread().len() < wanted {
             if let Err(cause) = self.receive(means, inbox) {
@@ -140,7 +145,7 @@ fn hurry_where<L: Link>(link: &mut L, is_ending: bool)
 }
 
 // What the child hears, with no word on the link.
-impl<L: Link, F: Life> Line<L, F> {
+impl<L: Link, W: Life> Line<L, W> {
     /// As [`Ear::pid`].
     pub fn pid(&self) -> u32
         ensures { result ≡ self.now.child.child.pid }
@@ -155,19 +160,21 @@ impl<L: Link, F: Life> Line<L, F> {
         ensures attentive { IsAttentive self.new.child }
         ensures ends { EndsIn result self.new.child.standing }
         ensures stops { GoesOrStops result self.new.child }
+        ensures rests { W.rests self.old.work self.new.work }
     {
         self.ear.heed()
     }
 
     /// As [`Ear::attach`].
-    pub fn attach(&mut self) -> Result<u32, GateNo>
+    pub fn attach(&mut self, is_ordinary: bool) -> Result<u32, GateNo>
         requires free { self.old.child.child.attached ≡ None }
         requires may { ¬ (IsTrue self.old.child.child.is_dead_end) }
         requires once { IsUntried self.old.child.told }
         ensures link { self.new.link ≡ self.old.link }
-        ensures meets { MeetsGate result self.old.child self.new.child }
+        ensures meets { MeetsGate is_ordinary result self.old.child self.new.child }
+        ensures rests { W.rests self.old.work self.new.work }
     {
-        self.ear.attach()
+        self.ear.attach(is_ordinary)
     }
 
     /// As [`Ear::cancel`].
@@ -177,6 +184,7 @@ impl<L: Link, F: Life> Line<L, F> {
         ensures told { self.new.child.told ≡ option_map (asked_cancel pid key) self.old.child.told }
         ensures child { self.new.child.child ≡ self.old.child.child }
         ensures standing { self.new.child.standing ≡ self.old.child.standing }
+        ensures rests { W.rests self.old.work self.new.work }
     {
         self.ear.cancel(pid, key);
     }
@@ -187,6 +195,7 @@ impl<L: Link, F: Life> Line<L, F> {
         ensures link { self.new.link ≡ self.old.link }
         ensures child { self.new.child.child ≡ let_go self.old.child.child }
         ensures told { self.new.child.told ≡ self.old.child.told }
+        ensures rests { W.rests self.old.work self.new.work }
     {
         self.ear.detach();
     }

@@ -23,92 +23,89 @@ pub(crate) enum Slept {
     Cancelled,
 }
 
-impl<L: Link, F: Life> Line<L, F> {
+impl<L: Link, W: Store + Life> Line<L, W> {
     /// Answers a query, with no word on the link. A cancel and a Terminate are heeded until its run, a Kill and a Quit until
     /// its release.
-    pub fn answer_to<R: Wait, S: Store, C: Clock>(
+    pub fn answer_to<R: Wait, C: Clock>(
         &mut self,
         means: &Means<'_, R, C>,
-        store: &mut S,
-        pass: &mut S::Pass,
+        pass: &mut W::Pass,
         text: &[u8],
     ) -> Result<Answer, Cause>
-        requires admits { S.admits store.old pass.old }
+        requires admits { W.admits self.old.work pass.old }
         requires text { IsQueryString text.now }
-        ensures notes { Notes S.Store pass.old (λ user. AnswerNotes user text.now result)
-            store.old store.new }
+        ensures notes { Notes W.Store.own pass.old (λ user. AnswerNotes user text.now result)
+            self.old.work self.new.work }
         ensures fit { AnswerFits text.now result self.old.child.told
             self.new.child.told }
         ensures slept { AnswerSleeps (C.gives means.now.clock.now) text.now result }
         ensures uncancelled { AnswerUncancelled result self.old.child.told self.new.child.told }
-        ensures admits { S.admits store.new pass.new }
-        ensures user { KeepsUser S.Store store.old pass.old store.new pass.new }
-        ensures overtaken { OvertakesBy (S.met store.new) (S.view pass.old).generation result }
+        ensures admits { W.admits self.new.work pass.new }
+        ensures user { KeepsUser W.Store.own self.old.work pass.old self.new.work pass.new }
+        ensures overtaken { OvertakesBy (W.met self.new.work) (W.view pass.old).generation result }
         ensures link { self.new.link ≡ self.old.link }
         ensures hears { Hears 0 self.old.child self.new.child }
         ensures heeded { AnswersOrHeeds result self.new.child }
     {
-        self.ear.answer_to(means, store, pass, text)
+        self.ear.answer_to(means, pass, text)
     }
 }
 
-impl<F: Life> Ear<F> {
+impl<W: Store + Life> Ear<W> {
     /// Answers a query. A cancel and a Terminate are heeded until its run, a Kill and a Quit until its release.
-    pub(crate) fn answer_to<R: Wait, S: Store, C: Clock>(
+    pub(crate) fn answer_to<R: Wait, C: Clock>(
         &mut self,
         means: &Means<'_, R, C>,
-        store: &mut S,
-        pass: &mut S::Pass,
+        pass: &mut W::Pass,
         text: &[u8],
     ) -> Result<Answer, Cause>
-        requires admits { S.admits store.old pass.old }
+        requires admits { W.admits self.old.work pass.old }
         requires text { IsQueryString text.now }
-        ensures notes { Notes S.Store pass.old (λ user. AnswerNotes user text.now result)
-            store.old store.new }
-        ensures fit { AnswerFits text.now result self.old.told self.new.told }
+        ensures notes { Notes W.Store.own pass.old (λ user. AnswerNotes user text.now result)
+            self.old.work self.new.work }
+        ensures fit { AnswerFits text.now result self.old.child.told self.new.child.told }
         ensures slept { AnswerSleeps (C.gives means.now.clock.now) text.now result }
-        ensures uncancelled { AnswerUncancelled result self.old.told self.new.told }
-        ensures admits { S.admits store.new pass.new }
-        ensures user { KeepsUser S.Store store.old pass.old store.new pass.new }
-        ensures overtaken { OvertakesBy (S.met store.new) (S.view pass.old).generation result }
-        ensures hears { Hears 0 self.old self.new }
-        ensures heeded { AnswersOrHeeds result self.new }
+        ensures uncancelled { AnswerUncancelled result self.old.child.told self.new.child.told }
+        ensures admits { W.admits self.new.work pass.new }
+        ensures user { KeepsUser W.Store.own self.old.work pass.old self.new.work pass.new }
+        ensures overtaken { OvertakesBy (W.met self.new.work) (W.view pass.old).generation result }
+        ensures hears { Hears 0 self.old.child self.new.child }
+        ensures heeded { AnswersOrHeeds result self.new.child }
     {
         self.drop_cancel();
         let Ok(text) = str::from_utf8(text) else {
             return Ok(Answer::NotUtf8);
         };
         match parse(means.alloc, text) {
-            Ok(script) => self.script_answer(means, store, pass, &script),
+            Ok(script) => self.script_answer(means, pass, &script),
             Err(fault) => Ok(faulted(means.alloc, text, fault)),
         }
     }
 
     // The answer to a script.
-    fn script_answer<R: Wait, S: Store, C: Clock>(
+    fn script_answer<R: Wait, C: Clock>(
         &mut self,
         means: &Means<'_, R, C>,
-        store: &mut S,
-        pass: &mut S::Pass,
+        pass: &mut W::Pass,
         script: &Script,
     ) -> Result<Answer, Cause>
-        requires admits { S.admits store.old pass.old }
-        requires idle { self.old.standing.cancel ≡ false }
-        ensures notes { Notes S.Store pass.old (λ user. ScriptNotes user script.now result)
-            store.old store.new }
-        ensures fit { IfOk result (FitsScript script.now self.old.told self.new.told) }
+        requires admits { W.admits self.old.work pass.old }
+        requires idle { self.old.child.standing.cancel ≡ false }
+        ensures notes { Notes W.Store.own pass.old (λ user. ScriptNotes user script.now result)
+            self.old.work self.new.work }
+        ensures fit { IfOk result (FitsScript script.now self.old.child.told self.new.child.told) }
         ensures slept { IfOk result (λ answer. HasSleptFor (C.gives means.now.clock.now)
             (turn_of answer) script.now) }
-        ensures uncancelled { AnswerUncancelled result self.old.told self.new.told }
-        ensures admits { S.admits store.new pass.new }
-        ensures user { KeepsUser S.Store store.old pass.old store.new pass.new }
-        ensures overtaken { OvertakesBy (S.met store.new) (S.view pass.old).generation result }
-        ensures hears { Hears 0 self.old self.new }
-        ensures heeded { AnswersOrHeeds result self.new }
+        ensures uncancelled { AnswerUncancelled result self.old.child.told self.new.child.told }
+        ensures admits { W.admits self.new.work pass.new }
+        ensures user { KeepsUser W.Store.own self.old.work pass.old self.new.work pass.new }
+        ensures overtaken { OvertakesBy (W.met self.new.work) (W.view pass.old).generation result }
+        ensures hears { Hears 0 self.old.child self.new.child }
+        ensures heeded { AnswersOrHeeds result self.new.child }
     {
         match self.sleep(means, script.sleep_seconds())? {
             Slept::Cancelled => Ok(Answer::Cancelled),
-            Slept::Whole => self.run(means, store, pass, script),
+            Slept::Whole => self.run(means, pass, script),
         }
     }
 
@@ -118,9 +115,10 @@ impl<F: Life> Ear<F> {
         means: &Means<'_, R, C>,
         seconds: u64,
     ) -> Result<Slept, Cause>
-        requires idle { self.old.standing.cancel ≡ false }
-        ensures goes { SleepGoes (C.gives means.now.clock.now) seconds result self.old self.new }
-        ensures hears { Hears 1 self.old self.new }
+        requires idle { self.old.child.standing.cancel ≡ false }
+        ensures goes { SleepGoes (C.gives means.now.clock.now) seconds result self.old.child self.new.child }
+        ensures hears { Hears 1 self.old.child self.new.child }
+        ensures rests { W.rests self.old.work self.new.work }
     {
         let end = means
             .clock
@@ -140,25 +138,24 @@ impl<F: Life> Ear<F> {
     }
 
     // Runs a script, and waits for the release of its reply.
-    fn run<R: Wait, S: Store, C: Clock>(
+    fn run<R: Wait, C: Clock>(
         &mut self,
         means: &Means<'_, R, C>,
-        store: &mut S,
-        pass: &mut S::Pass,
+        pass: &mut W::Pass,
         script: &Script,
     ) -> Result<Answer, Cause>
-        requires admits { S.admits store.old pass.old }
-        ensures notes { Notes S.Store pass.old (λ user. ScriptNotes user script.now result)
-            store.old store.new }
-        ensures fit { IfOk result (FitsScript script.now self.old.told self.new.told) }
-        ensures admits { S.admits store.new pass.new }
-        ensures user { KeepsUser S.Store store.old pass.old store.new pass.new }
-        ensures overtaken { OvertakesBy (S.met store.new) (S.view pass.old).generation result }
-        ensures hears { Hears 0 self.old self.new }
-        ensures heeded { AnswersOrHeeds result self.new }
+        requires admits { W.admits self.old.work pass.old }
+        ensures notes { Notes W.Store.own pass.old (λ user. ScriptNotes user script.now result)
+            self.old.work self.new.work }
+        ensures fit { IfOk result (FitsScript script.now self.old.child.told self.new.child.told) }
+        ensures admits { W.admits self.new.work pass.new }
+        ensures user { KeepsUser W.Store.own self.old.work pass.old self.new.work pass.new }
+        ensures overtaken { OvertakesBy (W.met self.new.work) (W.view pass.old).generation result }
+        ensures hears { Hears 0 self.old.child self.new.child }
+        ensures heeded { AnswersOrHeeds result self.new.child }
     {
-        match store.run(pass, script) {
-            Ok(staged) => self.release(means, store, pass, staged),
+        match self.ask_run(pass, script) {
+            Ok(staged) => self.release(means, pass, staged),
             Err(no) => refusal_of(no),
         }
     }

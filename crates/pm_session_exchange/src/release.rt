@@ -60,27 +60,26 @@ pub(crate) enum Awaited {
     NoMemory,
 }
 
-impl<F: Life> Ear<F> {
+impl<W: Store + Life> Ear<W> {
     /// Waits until the log is flushed up to what was staged. The child takes its signals before it asks first, and again
     /// each time before it flushes the log itself. A Kill or a Quit ends the wait; other signals stand until later.
-    pub(crate) fn release<R: Wait, S: Store, C: Clock>(
+    pub(crate) fn release<R: Wait, C: Clock>(
         &mut self,
         means: &Means<'_, R, C>,
-        store: &mut S,
-        pass: &mut S::Pass,
+        pass: &mut W::Pass,
         staged: Staged,
     ) -> Result<Answer, Cause>
-        requires admits { S.admits store.old pass.old }
-        requires reached { HasReached (S.view pass.old) staged.front }
-        ensures notes { Notes S.Store pass.old (λ user. ReleaseNotes user staged result)
-            store.old store.new }
-        ensures admits { S.admits store.new pass.new }
-        ensures user { KeepsUser S.Store store.old pass.old store.new pass.new }
-        ensures overtaken { OvertakesBy (S.met store.new) (S.view pass.old).generation result }
-        ensures hears { Hears 1 self.old self.new }
-        ensures heeded { AnswersOrHeeds result self.new }
+        requires admits { W.admits self.old.work pass.old }
+        requires reached { HasReached (W.view pass.old) staged.front }
+        ensures notes { Notes W.Store.own pass.old (λ user. ReleaseNotes user staged result)
+            self.old.work self.new.work }
+        ensures admits { W.admits self.new.work pass.new }
+        ensures user { KeepsUser W.Store.own self.old.work pass.old self.new.work pass.new }
+        ensures overtaken { OvertakesBy (W.met self.new.work) (W.view pass.old).generation result }
+        ensures hears { Hears 1 self.old.child self.new.child }
+        ensures heeded { AnswersOrHeeds result self.new.child }
     {
-        match self.await_flush(means, store, pass, staged.front)? {
+        match self.await_flush(means, pass, staged.front)? {
             Awaited::Flushed => {
                 let reply = staged.reply;
                 Ok(Answer::Ran(Released { reply }))
@@ -90,32 +89,31 @@ impl<F: Life> Ear<F> {
     }
 
     // Waits until the log is flushed up to a front.
-    fn await_flush<R: Wait, S: Store, C: Clock>(
+    fn await_flush<R: Wait, C: Clock>(
         &mut self,
         means: &Means<'_, R, C>,
-        store: &mut S,
-        pass: &mut S::Pass,
+        pass: &mut W::Pass,
         front: u64,
     ) -> Result<Awaited, Cause>
-        requires admits { S.admits store.old pass.old }
-        requires reached { HasReached (S.view pass.old) front }
-        ensures notes { Notes S.Store pass.old (λ user. WaitNotes user front result)
-            store.old store.new }
-        ensures admits { S.admits store.new pass.new }
-        ensures user { KeepsUser S.Store store.old pass.old store.new pass.new }
-        ensures overtaken { OvertakesBy (S.met store.new) (S.view pass.old).generation result }
-        ensures hears { Hears 1 self.old self.new }
-        ensures heeded { AnswersOrHeeds result self.new }
+        requires admits { W.admits self.old.work pass.old }
+        requires reached { HasReached (W.view pass.old) front }
+        ensures notes { Notes W.Store.own pass.old (λ user. WaitNotes user front result)
+            self.old.work self.new.work }
+        ensures admits { W.admits self.new.work pass.new }
+        ensures user { KeepsUser W.Store.own self.old.work pass.old self.new.work pass.new }
+        ensures overtaken { OvertakesBy (W.met self.new.work) (W.view pass.old).generation result }
+        ensures hears { Hears 1 self.old.child self.new.child }
+        ensures heeded { AnswersOrHeeds result self.new.child }
     {
         for _ in means.rt.forever() {
             self.heed_waiting()?;
-            match store.seen(pass, front) {
+            match self.ask_seen(pass, front) {
                 Ok(Seen::Released) => return Ok(Awaited::Flushed),
                 Ok(Seen::NotFlushed { .. }) => {}
                 Err(no) => return no_release(no),
             }
             self.heed_waiting()?;
-            if let Err(refusal) = store.flush(pass) {
+            if let Err(refusal) = self.ask_flush(pass) {
                 return no_release(refusal);
             }
         }

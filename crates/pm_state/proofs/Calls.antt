@@ -532,7 +532,7 @@ call-leads limits m h (Asks mode now) facts well fit =
 call-leads limits m h (Ticks now) facts well fit =
     record { run = tick-run limits m h now facts; facts = tick-facts limits m h now facts }
 call-leads limits m h TakesTurn facts well fit = turned limits h m fit.goes_on facts
-call-leads limits m h (Attaches pid) facts well fit = record { run = (record { goes_on = going_on limits m h.now fit.0 facts; rest = tt; shared = fit.1 }, tt); facts = mark-facts limits m h.now pid true facts }
+call-leads limits m h (Attaches pid reserve) facts well fit = record { run = (record { goes_on = going_on limits m h.now fit.0 facts; rest = fit.1; shared = fit.2 }, tt); facts = mark-facts limits m h.now pid true facts }
 call-leads limits m h (Touches pid) facts well fit = record { run = (record { goes_on = going_on limits m h.now fit.0 facts; rest = tt; shared = fit.1 }, tt); facts = facts }
 call-leads limits m h (Detaches pid) facts well fit = record { run = (record { goes_on = going_on limits m h.now fit.0 facts; rest = tt; shared = fit.1 }, tt); facts = mark-facts limits m h.now pid false facts }
 

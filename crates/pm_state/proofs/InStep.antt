@@ -392,7 +392,7 @@ call-laws law between gives kept limits r m h TakesTurn step fit timely =
       shown = turn-shown law kept r m h step.shown;
       owes = step-owes m Turned refl fit;
     }
-call-laws law between gives kept limits r m h (Attaches pid) step fit timely = absurd timely
+call-laws law between gives kept limits r m h (Attaches pid reserve) step fit timely = absurd timely
 call-laws law between gives kept limits r m h (Touches pid) step fit timely = absurd timely
 call-laws law between gives kept limits r m h (Detaches pid) step fit timely = absurd timely
 

@@ -334,7 +334,7 @@ call-writes gives kept r m (Exits pid k status a now) agrees on may = exit-write
 call-writes gives kept r m (Asks mode now) agrees on may = ask-writes gives kept r m mode now agrees on may.0 may.1
 call-writes gives kept r m (Ticks now) agrees on may = tick-writes gives kept r m now agrees on may.0 may.1
 call-writes gives kept r m TakesTurn agrees on may = turn-writes gives kept r m agrees on may
-call-writes gives kept r m (Attaches pid) agrees on may = absurd may
+call-writes gives kept r m (Attaches pid reserve) agrees on may = absurd may
 call-writes gives kept r m (Touches pid) agrees on may = absurd may
 call-writes gives kept r m (Detaches pid) agrees on may = absurd may
 

@@ -1,7 +1,7 @@
 -- The state machine of the supervisor, after PostgreSQL's pmState, as a function of what it remembers and of what
 -- happened. The manual: 19.5 "Shutting Down the Server", and 20.14 "Error Handling" for the restart after a crash.
 use Rattle.std.specs.Prelude.{◌≡◌, ◌≢◌, ℕ, ◌+◌, ◌*◌, ◌<◌, ◌≤◌, Bool, true, false, [], None, is_some}
-use Rattle.pm_supervisor.specs.{pm_exit.declared.child.{Status.Status, Kind.Kind}, pm_modes.{declared.Mode.Mode, Strength.strengthen_of}, pm_admit.{declared.{PmState.PmState, Cac.Cac, View.View}, Admission.decide_of}, declared.Limits.Limits}
+use Rattle.pm_supervisor.specs.{pm_exit.declared.child.{Status.Status, Kind.Kind}, pm_modes.{declared.Mode.Mode, Strength.strengthen_of}, pm_admit.{declared.{PmState.PmState, Cac.Cac, View.View}, Admission.decide_of}, declared.Limits.Limits, Limits.IsWithinLimits}
 use Rattle.pm_supervisor.specs.pm_exit.declared.child.Kind.TheVariants as kind
 use Rattle.pm_supervisor.specs.pm_admit.declared.PmState.TheVariants as state
 use Rattle.pm_supervisor.specs.pm_admit.declared.Cac.TheVariants as cac
@@ -105,8 +105,8 @@ abbrev pub MayAccept : Machine → Type 0
 MayAccept m = (m.ended ≡ false) × (accepts_in m.state ≡ true) × (m.dead_ends < 4)
 
 -- the counts stay within what the limits and the accepting of connections leave
-pub record IsWithinLimits (m : Machine) : Type 0 where
-  pub connections : m.limits.max_connections + m.limits.max_worker_processes ≤ 200
+pub record StaysWithin (m : Machine) : Type 0 where
+  pub limits : IsWithinLimits m.limits
   pub children : m.children ≤ 2 * (m.limits.max_connections + m.limits.max_worker_processes)
   pub dead_ends : m.dead_ends ≤ 4
 

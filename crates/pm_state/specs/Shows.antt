@@ -1,6 +1,6 @@
 -- What the machine shows of a supervisor, and what its calls do to the supervisor that it shows.
 use Rattle.std.specs.Prelude.{◌≡◌, ℕ, ◌<◌, Bool, true, false, not, ◌==◌, ◌&&◌, if◌then◌else◌, List, [], ◌∷◌, ◌++◌, Option, Some, None, is_none, IsSomeAnd}
-use Rattle.pm_supervisor.specs.{pm_exit.{declared.child.{Status.Status, Kind.Kind}, Ends.{class_of, is_exit_0}}, pm_modes.{declared.Mode.Mode, Strength.strengthen_of}, pm_admit.{declared.PmState.PmState, Admission.decide_of}, declared.Limits.Limits, Children.{is_session, is_startup_child, is_checkpointer, is_writer, is_dead_end, child_of, one_if, count_of}, Phase.Phase, Supervisor.Supervisor, Steps.{Trace, SharedAllows, is_normal, empty_trace, all_happened, IsRun}}
+use Rattle.pm_supervisor.specs.{pm_exit.{declared.child.{Status.Status, Kind.Kind}, Ends.{class_of, is_exit_0}}, pm_modes.{declared.Mode.Mode, Strength.strengthen_of}, pm_admit.{declared.PmState.PmState, Admission.decide_of}, declared.Limits.Limits, Children.{is_session, is_startup_child, is_checkpointer, is_writer, is_dead_end, child_of, one_if, count_of}, Phase.Phase, Supervisor.Supervisor, Shared.IsReserve, Steps.{Trace, SharedAllows, is_normal, empty_trace, all_happened, IsRun}}
 use Rattle.pm_supervisor.specs.pm_exit.declared.child.Kind.TheVariants as kind
 use Rattle.pm_supervisor.specs.pm_admit.declared.PmState.TheVariants as state
 use Rattle.pm_supervisor.specs.Phase as phase
@@ -43,7 +43,7 @@ pub data Call : Type 0 where
   Asks : (mode : Mode) → (now : ℕ) → Call
   Ticks : (now : ℕ) → Call
   TakesTurn : Call
-  Attaches : (pid : ℕ) → Call
+  Attaches : (pid reserve : ℕ) → Call
   Touches : (pid : ℕ) → Call
   Detaches : (pid : ℕ) → Call
 
@@ -116,7 +116,7 @@ events_of_call m (Asks mode now) =
     events_of_request (strengthen_of m.shutdown mode) ++ events_of (step m (Asked mode now)).acts
 events_of_call m (Ticks now) = events_of (step m (Ticked now)).acts
 events_of_call m TakesTurn = events_of_turn m
-events_of_call m (Attaches pid) = supervisor.Attach pid ∷ []
+events_of_call m (Attaches pid reserve) = supervisor.Attach pid reserve ∷ []
 events_of_call m (Touches pid) = supervisor.Touch pid ∷ []
 events_of_call m (Detaches pid) = supervisor.Detach pid ∷ []
 
@@ -130,7 +130,8 @@ IsFit limits m h (Exits pid kind status was_active now) =
 IsFit limits m h (Asks mode now) = IsReady m
 IsFit limits m h (Ticks now) = IsReady m
 IsFit limits m h TakesTurn = IsReady m
-IsFit limits m h (Attaches pid) = (m.ended ≡ false) × SharedAllows limits h.past h.now.shared (supervisor.Attach pid)
+IsFit limits m h (Attaches pid reserve) =
+    (m.ended ≡ false) × IsReserve limits.reserved reserve × SharedAllows limits h.past h.now.shared (supervisor.Attach pid reserve)
 IsFit limits m h (Touches pid) = (m.ended ≡ false) × SharedAllows limits h.past h.now.shared (supervisor.Touch pid)
 IsFit limits m h (Detaches pid) = (m.ended ≡ false) × SharedAllows limits h.past h.now.shared (supervisor.Detach pid)
 

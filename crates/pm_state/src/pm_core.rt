@@ -24,21 +24,22 @@ pub struct PmCore {
 }
 
 impl Model for PmCore {
-    ghost use Rattle.pm_state.specs.{declared.machine.Machine.Machine as Value_, Machine.IsWithinLimits};
+    ghost use Rattle.pm_state.specs.{declared.machine.Machine.Machine as Value_, Machine.StaysWithin};
 
     ghost Value = { Value_ };
 
     ghost view = { λ core. core.machine };
 
-    ghost invariant = { λ core. IsWithinLimits core.machine };
+    ghost invariant = { λ core. StaysWithin core.machine };
 }
 
 impl PmCore {
+    ghost use Rattle.pm_supervisor.specs.Limits.{IsWithinLimits};
     ghost use Rattle.pm_state.specs.Machine.{step, begun, view_of, IsReady, IsCounted, IsDue, MayAccept, MachineEvent.{Accepted, Started, Exited, Asked, Ticked, Turned}};
 
     /// The machine before anything happened.
     pub fn new(limits: Limits) -> Self
-        requires { limits.max_connections + limits.max_worker_processes ≤ 200 }
+        requires { IsWithinLimits limits }
         ensures { result ≡ begun limits }
     {
         PmCore {

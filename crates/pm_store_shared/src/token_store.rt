@@ -1,9 +1,10 @@
 //! A token with leave to wait, which is a store. Its calls tell the writer and the checkpointer what is left to them.
-ghost use Rattle.std.{specs.Prelude.None, proofs.Common.refl};
-ghost use Rattle.pm_segment.specs.{Passes.view_of, pm_query.Book.generation_of};
+ghost use Rattle.std.{specs.Prelude.{◌≡◌, [], None}, proofs.Common.{refl, ap, subst, sym}};
+ghost use Rattle.pm_segment.specs.{Passes.view_of, pm_query.{Book.generation_of, pm_child_life.Life.no_child}};
 ghost use Rattle.pm_store_shared.specs.{Grows.Grew, GrowsLaws.{generation_rises, grew_none, grew_on}, Learned.Learned, LearnedLaws.learned_still, Passes.Among};
 
 use crate::token::Token;
+use pm_child_life::Seat;
 use pm_disk::Disk;
 use pm_outside::{Chronicle, Clock};
 use pm_query::{BookEntry, Checkpointed, Seen, Staged, Stepping, Store, StoreNo};
@@ -18,6 +19,15 @@ pub struct TokenStore<R: Wait + Drop, C: Drop, D: Disk + Drop, B: Chronicle<Book
     pub rt: R,
     pub token: Token<D, B>,
     pub caller: Caller<C>,
+}
+
+impl<R: Wait + Drop, C: Clock + Drop, D: Disk + Drop, B: Chronicle<BookEntry> + Drop> Seat
+    for TokenStore<R, C, D, B> {
+    ghost child = { λ store. no_child };
+
+    ghost told = { λ store. None };
+
+    ghost rests = { λ before now. now.token ≡ before.token };
 }
 
 impl<R: Wait + Drop, C: Clock + Drop, D: Disk + Drop, B: Chronicle<BookEntry> + Drop> Store
@@ -84,6 +94,12 @@ impl<R: Wait + Drop, C: Clock + Drop, D: Disk + Drop, B: Chronicle<BookEntry> + 
     }
 
     ghost at_rest = { λ store. grew_none store.token };
+
+    ghost apart = { λ before now same. subst (λ token. Grew [] before.token token) (sym same) (grew_none before.token) };
+
+    ghost admits_still = { λ before now pass same admits. subst (λ token. Among pass token.passes) (sym same) admits };
+
+    ghost met_still = { λ before now same. ap (λ token. generation_of token.past) same };
 
     ghost in_turn = { λ before between now first second one two. grew_on first second before.token between.token now.token one two };
 

@@ -108,7 +108,7 @@ same-generation : (s : Supervisor) (ds : List Child) (e : SupervisorEvent)
     → (shared_after (with_children s ds).shared e).generation ≡ (shared_after s.shared e).generation
 same-generation s ds (Accept pid decision) = refl
 same-generation s ds (Start pid k) = refl
-same-generation s ds (Attach pid) = refl
+same-generation s ds (Attach pid reserve) = refl
 same-generation s ds (Touch pid) = refl
 same-generation s ds (Detach pid) = refl
 same-generation s ds (Exit pid k status was_active) = refl
@@ -138,7 +138,7 @@ past-both s ds p q e alike =
     }
 
 past-child-redone : (e : SupervisorEvent) (before : Bool) → is_child_step e ≡ true → redo_ended_after e before ≡ before
-past-child-redone (Attach pid) before child = refl
+past-child-redone (Attach pid reserve) before child = refl
 past-child-redone (Touch pid) before child = refl
 past-child-redone (Detach pid) before child = refl
 past-child-redone (Accept pid decision) before child = absurd cc
@@ -192,7 +192,7 @@ rest-alike limits s ds (Start pid kind.Writer) same may = (may.0, sym same.write
 rest-alike limits s ds (Start pid kind.Worker) same may = may
 rest-alike limits s ds (Start pid kind.Backend) same may = may
 rest-alike limits s ds (Start pid kind.DeadEnd) same may = may
-rest-alike limits s ds (Attach pid) same may = may
+rest-alike limits s ds (Attach pid reserve) same may = may
 rest-alike limits s ds (Touch pid) same may = may
 rest-alike limits s ds (Detach pid) same may = may
 rest-alike limits s ds (Exit pid k status was_active) same may = may
@@ -223,7 +223,7 @@ shared-alike : (limits : Limits) (s : Supervisor) (ds : List Child) (p q : List 
     → is_child_step e ≡ false → SharedAllows limits p s.shared e → SharedAllows limits q (with_children s ds).shared e
 shared-alike limits s ds p q (Accept pid decision) same past kept other may = record { of_shared = may.of_shared; of_past = tt }
 shared-alike limits s ds p q (Start pid k) same past kept other may = record { of_shared = may.of_shared; of_past = tt }
-shared-alike limits s ds p q (Attach pid) same past kept other may = absurd cc
+shared-alike limits s ds p q (Attach pid reserve) same past kept other may = absurd cc
 shared-alike limits s ds p q (Touch pid) same past kept other may = absurd cc
 shared-alike limits s ds p q (Detach pid) same past kept other may = absurd cc
 shared-alike limits s ds p q (Exit pid k status was_active) same past kept other may =
@@ -272,7 +272,7 @@ after-alike : (s : Supervisor) (ds : List Child) (e : SupervisorEvent) → all_d
     → is_child_step e ≡ false → IsAlike (after s e) (after (with_children s ds) e)
 after-alike s ds (Accept pid decision) same other = record { others = refl; children = ap (λ xs. record { pid = pid; kind = kind_for decision; generation = s.shared.generation; attached = false } ∷ xs) same }
 after-alike s ds (Start pid k) same other = record { others = refl; children = ap (λ xs. record { pid = pid; kind = k; generation = s.shared.generation; attached = false } ∷ xs) same }
-after-alike s ds (Attach pid) same other = absurd cc
+after-alike s ds (Attach pid reserve) same other = absurd cc
 after-alike s ds (Touch pid) same other = absurd cc
 after-alike s ds (Detach pid) same other = absurd cc
 after-alike s ds (Exit pid k status was_active) same other = record { others = refl; children = without-alike pid s.shared.children ds same }
@@ -287,7 +287,7 @@ after-alike s ds (Move to) same other = record { others = refl; children = same 
 
 child-alike : (s : Supervisor) (ds : List Child) (e : SupervisorEvent) → all_detached s.shared.children ≡ all_detached ds
     → is_child_step e ≡ true → IsAlike s (after (with_children s ds) e)
-child-alike s ds (Attach pid) same child = record { others = refl; children = same ∙ sym (detached-marked pid true ds) }
+child-alike s ds (Attach pid reserve) same child = record { others = refl; children = same ∙ sym (detached-marked pid true ds) }
 child-alike s ds (Touch pid) same child = record { others = refl; children = same }
 child-alike s ds (Detach pid) same child = record { others = refl; children = same ∙ sym (detached-marked pid false ds) }
 child-alike s ds (Accept pid decision) same child = absurd cc
@@ -377,7 +377,7 @@ alike-count test s t near = same-count test s.shared.children t.shared.children 
 pub detached-after : (s : Shared) (e : SupervisorEvent) → is_child_step e ≡ false → detached (shared_after s e) ≡ shared_after (detached s) e
 detached-after s (Accept pid decision) other = refl
 detached-after s (Start pid k) other = refl
-detached-after s (Attach pid) other = absurd cc
+detached-after s (Attach pid reserve) other = absurd cc
 detached-after s (Touch pid) other = absurd cc
 detached-after s (Detach pid) other = absurd cc
 detached-after s (Exit pid k status was_active) other = ap (λ cs. record s { children = cs }) (detached-without pid s.children)

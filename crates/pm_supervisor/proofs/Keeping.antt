@@ -53,10 +53,10 @@ same-attached pid (c ∷ cs) found =
     found
 
 -- a session or not: within the limit
-attaches-within : (limit : ℕ) (s : Shared) (pid : ℕ) (o : Option Child) → child_of pid s.children ≡ o → IsSomeAnd o (MayAttach limit s)
+attaches-within : (limit reserve : ℕ) (s : Shared) (pid : ℕ) (o : Option Child) → child_of pid s.children ≡ o → IsSomeAnd o (MayAttach limit reserve s)
     → attached_sessions s.children ≤ limit → attached_sessions (marked pid true s.children) ≤ limit
-attaches-within limit s pid None is may within = absurd may
-attaches-within limit s pid (Some c) is may within =
+attaches-within limit reserve s pid None is may within = absurd may
+attaches-within limit reserve s pid (Some c) is may within =
     elim (is_session c.kind) as (λ v. is_session c.kind ≡ v → attached_sessions (marked pid true s.children) ≤ limit) [
       | true ↦ λ session. omega (arith, one-attached pid s.children, (may.3 session).1)
       | false ↦ λ other. omega (arith, same-attached pid s.children (rw is other), within)
@@ -92,22 +92,22 @@ keeps limit s (Join pid kind) above kept =
       dead_ends_apart = (λ refuses. refl, kept.dead_ends_apart);
       within_limit = omega (arith, mark-none (is_session kind), kept.within_limit);
     }
-keeps limit s (Attach pid) may kept =
+keeps limit s (Attach pid reserve) may kept =
     record {
       pids_differ = differ-marked pid true s.children kept.pids_differ;
       pids_rise = each-marked_any (λ c. c.pid ≤ s.last_pid) pid true (λ c h. h) s.children kept.pids_rise;
       generations = each-marked_any (λ c. c.generation ≡ s.generation) pid true (λ c h. h) s.children kept.generations;
       attached_in_open =
           each-marked (λ c. is_session c.kind ≡ true → c.attached ≡ true → s.is_open ≡ true) pid true s.children
-          (some_map (MayAttach limit s) (λ c. is_session c.kind ≡ true → true ≡ true → s.is_open ≡ true)
+          (some_map (MayAttach limit reserve s) (λ c. is_session c.kind ≡ true → true ≡ true → s.is_open ≡ true)
           (λ c fits session attached. (fits.3 session).0) (child_of pid s.children) may)
           kept.attached_in_open;
       dead_ends_apart =
           each-marked (λ c. is_dead_end c.kind ≡ true → c.attached ≡ false) pid true s.children
-          (some_map (MayAttach limit s) (λ c. is_dead_end c.kind ≡ true → true ≡ false)
+          (some_map (MayAttach limit reserve s) (λ c. is_dead_end c.kind ≡ true → true ≡ false)
           (λ c fits refuses. absurd (let no : is_dead_end c.kind ≡ false = fits.1 in cc)) (child_of pid s.children) may)
           kept.dead_ends_apart;
-      within_limit = attaches-within limit s pid (child_of pid s.children) refl may kept.within_limit;
+      within_limit = attaches-within limit reserve s pid (child_of pid s.children) refl may kept.within_limit;
     }
 keeps limit s (Touch pid) may kept = kept
 keeps limit s (Detach pid) may kept =

@@ -154,16 +154,16 @@ same-join c d cs ds is same =
 -- what may happen to the one may happen to the other
 pub allows-same : (limit : ℕ) (s t : Shared) (e : SharedEvent) → PidsDiffer s.children → PidsDiffer t.children → IsSame s t → Allows limit s e → Allows limit t e
 allows-same limit s t (Join pid k) first second same may = rw (sym same.last_pid) may
-allows-same limit s t (Attach pid) first second same may =
-    subst (λ o. IsSomeAnd o (MayAttach limit t)) (same.children pid)
-    (some_map (MayAttach limit s) (MayAttach limit t)
+allows-same limit s t (Attach pid reserve) first second same may =
+    subst (λ o. IsSomeAnd o (MayAttach limit reserve t)) (same.children pid)
+    (some_map (MayAttach limit reserve s) (MayAttach limit reserve t)
     (λ c fits. (
       fits.0,
       fits.1,
       sym same.noticed ∙ fits.2,
       λ session. (
         sym same.is_open ∙ (fits.3 session).0,
-        subst (λ n. n < limit) (attached-same s.children t.children first second same.children) (fits.3 session).1,
+        subst (λ n. n + reserve < limit) (attached-same s.children t.children first second same.children) (fits.3 session).1,
       ),
     ))
     (child_of pid s.children) may)
@@ -193,7 +193,7 @@ after-same s t (Join pid k) first second same =
       children = same-join _ _ s.children t.children
           (ap {A = ℕ} (λ g. the_child pid k g) same.generation) same.children;
     }
-after-same s t (Attach pid) first second same =
+after-same s t (Attach pid reserve) first second same =
     record {
       generation = same.generation;
       is_open = same.is_open;

@@ -14,7 +14,7 @@ pub step-serves : (limits : Limits) (s : Supervisor) (e : SupervisorEvent) → R
     → (after s e).phase ≡ phase.Running → ServesWell (after s e)
 step-serves limits s (Accept pid decision) may well running = grind (arith, well)
 step-serves limits s (Start pid k) may well running = grind (arith, well)
-step-serves limits s (Attach pid) may well running = grind (arith, well)
+step-serves limits s (Attach pid reserve) may well running = grind (arith, well)
 step-serves limits s (Touch pid) may well running = grind (arith, well)
 step-serves limits s (Detach pid) may well running = grind (arith, well)
 step-serves limits s (Exit pid k status was_active) may well running =

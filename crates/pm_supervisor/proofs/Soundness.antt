@@ -12,7 +12,7 @@ opened-later :
     → (shared_after s e).is_open ≡ true → HasRecovered (shared_after s e).generation (with_event past s e)
 opened-later past s (Accept pid decision) before is = inr (before is)
 opened-later past s (Start pid kind) before is = inr (before is)
-opened-later past s (Attach pid) before is = inr (before is)
+opened-later past s (Attach pid reserve) before is = inr (before is)
 opened-later past s (Touch pid) before is = inr (before is)
 opened-later past s (Detach pid) before is = inr (before is)
 opened-later past s (Exit pid kind status was_active) before is = inr (before is)
@@ -39,7 +39,7 @@ sound-step limits past s e may sound =
 pub shared-after : (s : Supervisor) (e : SupervisorEvent) → (after s e).shared ≡ shared_after s.shared e
 shared-after s (Accept pid decision) = refl
 shared-after s (Start pid kind) = refl
-shared-after s (Attach pid) = refl
+shared-after s (Attach pid reserve) = refl
 shared-after s (Touch pid) = refl
 shared-after s (Detach pid) = refl
 shared-after s (Exit pid kind status was_active) = refl

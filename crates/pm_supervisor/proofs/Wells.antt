@@ -44,7 +44,7 @@ before_redo-step : (limits : Limits) (h : Trace) (e : SupervisorEvent) → MayHa
     → not (is_before_redo (happened h e).now.phase) || not (redo_has_ended (happened h e).past) ≡ true
 before_redo-step limits h (Accept pid decision) may well = well
 before_redo-step limits h (Start pid k) may well = well
-before_redo-step limits h (Attach pid) may well = well
+before_redo-step limits h (Attach pid reserve) may well = well
 before_redo-step limits h (Touch pid) may well = well
 before_redo-step limits h (Detach pid) may well = well
 before_redo-step limits h (Exit pid k status was_active) may well =
@@ -65,7 +65,7 @@ startup_child-step : (limits : Limits) (h : Trace) (e : SupervisorEvent) → May
     → (count_of is_startup_child (happened h e).now.shared.children == 0) || not (redo_has_ended (happened h e).past) ≡ true
 startup_child-step limits h (Accept pid decision) may before well = grind (arith, well)
 startup_child-step limits h (Start pid k) may before well = grind (arith, well, before)
-startup_child-step limits h (Attach pid) may before well = rw (count-marked is_startup_child pid true h.now.shared.children) well
+startup_child-step limits h (Attach pid reserve) may before well = rw (count-marked is_startup_child pid true h.now.shared.children) well
 startup_child-step limits h (Touch pid) may before well = well
 startup_child-step limits h (Detach pid) may before well = rw (count-marked is_startup_child pid false h.now.shared.children) well
 startup_child-step limits h (Exit pid k status was_active) may before well =
@@ -85,7 +85,7 @@ not_running-step : (limits : Limits) (h : Trace) (e : SupervisorEvent) → MayHa
     → not (awaits_redo (happened h e).past) || not (is_running (happened h e).now.phase) ≡ true
 not_running-step limits h (Accept pid decision) may serves well = well
 not_running-step limits h (Start pid k) may serves well = well
-not_running-step limits h (Attach pid) may serves well = well
+not_running-step limits h (Attach pid reserve) may serves well = well
 not_running-step limits h (Touch pid) may serves well = well
 not_running-step limits h (Detach pid) may serves well = well
 not_running-step limits h (Exit pid k status was_active) may serves well =
@@ -104,7 +104,7 @@ closed-step : (limits : Limits) (h : Trace) (e : SupervisorEvent) → MayHappen 
     → not (awaits_redo (happened h e).past) || (is_some (happened h e).now.shared.noticed || not (happened h e).now.shared.is_open) ≡ true
 closed-step limits h (Accept pid decision) may well = well
 closed-step limits h (Start pid k) may well = well
-closed-step limits h (Attach pid) may well = well
+closed-step limits h (Attach pid reserve) may well = well
 closed-step limits h (Touch pid) may well = well
 closed-step limits h (Detach pid) may well = well
 closed-step limits h (Exit pid k status was_active) may well = well
@@ -135,7 +135,7 @@ checkpointed-step : (limits : Limits) (h : Trace) (e : SupervisorEvent) → MayH
     || ((happened h e).now.crash || (is_immediate (happened h e).now.request || is_checkpointed (happened h e).past)) ≡ true
 checkpointed-step limits h (Accept pid decision) may well = well
 checkpointed-step limits h (Start pid k) may well = well
-checkpointed-step limits h (Attach pid) may well = well
+checkpointed-step limits h (Attach pid reserve) may well = well
 checkpointed-step limits h (Touch pid) may well = well
 checkpointed-step limits h (Detach pid) may well = well
 checkpointed-step limits h (Exit pid k status was_active) may well =
@@ -193,17 +193,17 @@ well-empty_trace limits =
 
 -- no session is admitted while the data have to be brought up to date after a crash
 
-no-session : (s : Shared) (c : Child) (limits : Limits) → is_some s.noticed || not s.is_open ≡ true → MayAttach limits.max_connections s c → is_session c.kind ≡ false
-no-session s c limits closed may = grind (arith, may)
+no-session : (s : Shared) (c : Child) (limits : Limits) (reserve : ℕ) → is_some s.noticed || not s.is_open ≡ true → MayAttach limits.max_connections reserve s c → is_session c.kind ≡ false
+no-session s c limits reserve closed may = grind (arith, may)
 
 pub admits-none : (limits : Limits) (h : Trace) (e : SupervisorEvent) → IsWell limits h → awaits_redo h.past ≡ true → MayHappen limits h e → AdmitsNone h.now.shared e
 admits-none limits h (Accept pid decision) well awaits may =
     λ ok.
     let running : h.now.phase ≡ phase.Running = admission-running limits h.now (grind (arith, may.rest, ok)) in
     absurd (grind (arith, running, awaits, well.not_running))
-admits-none limits h (Attach pid) well awaits may =
-    some_map (MayAttach limits.max_connections h.now.shared) (λ c. is_session c.kind ≡ false)
-    (λ c fits. no-session h.now.shared c limits (by-implied (awaits_redo h.past) (is_some h.now.shared.noticed || not h.now.shared.is_open) well.closed awaits) fits)
+admits-none limits h (Attach pid reserve) well awaits may =
+    some_map (MayAttach limits.max_connections reserve h.now.shared) (λ c. is_session c.kind ≡ false)
+    (λ c fits. no-session h.now.shared c limits reserve (by-implied (awaits_redo h.past) (is_some h.now.shared.noticed || not h.now.shared.is_open) well.closed awaits) fits)
     (child_of pid h.now.shared.children) may.shared.of_shared
 admits-none limits h (Start pid k) well awaits may = tt
 admits-none limits h (Touch pid) well awaits may = tt

@@ -4,7 +4,7 @@ use Rattle.pm_supervisor.specs.{declared.Limits.Limits, Children.Child, Supervis
 
 -- a child attaches, uses what is shared, or detaches
 abbrev pub is_child_step : SupervisorEvent → Bool
-is_child_step (Attach pid) = true
+is_child_step (Attach pid reserve) = true
 is_child_step (Touch pid) = true
 is_child_step (Detach pid) = true
 is_child_step _ = false

@@ -50,7 +50,7 @@ is_reset _ = false
 -- an event that makes no session: no connection is decided to become one, and no session attaches
 abbrev pub AdmitsNone : Shared → SupervisorEvent → Type 0
 AdmitsNone s (Accept pid decision) = decision ≢ Admitted
-AdmitsNone s (Attach pid) = IsSomeAnd (child_of pid s.children) (λ c. is_session c.kind ≡ false)
+AdmitsNone s (Attach pid reserve) = IsSomeAnd (child_of pid s.children) (λ c. is_session c.kind ≡ false)
 AdmitsNone s _ = Unit {0}
 
 -- the data of this generation aren't up to date yet

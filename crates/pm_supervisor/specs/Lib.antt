@@ -2,6 +2,7 @@ pub mod Between
 pub mod Children
 pub mod Invariant
 pub mod Laws
+pub mod Limits
 pub mod Phase
 pub mod Shared
 pub mod Steps

@@ -1,13 +1,14 @@
 -- What the supervisor and its children share, and what may happen to it, without phase, request, decision or journal: the
 -- board of child slots shows no more than this, and each of its steps is one of these events or none.
-use Rattle.std.specs.{Prelude.{◌≡◌, ◌≢◌, ℕ, ◌+◌, ◌<◌, ◌≤◌, Bool, true, false, if◌then◌else◌, List, [], ◌∷◌, Option, Some, None, IsSomeAnd}, List.AllByRecursion}
+use Rattle.std.specs.{Prelude.{◌≡◌, ◌≢◌, ◌⊎◌, ℕ, ◌+◌, ◌<◌, ◌≤◌, Bool, true, false, if◌then◌else◌, List, [], ◌∷◌, Option, Some, None, IsSomeAnd}, List.AllByRecursion}
 use Rattle.pm_exit.specs.declared.child.Kind.{Kind}
 use Rattle.pm_supervisor.specs.{declared.Reason.Reason, Children.{Child, is_session, is_startup_child, is_dead_end, child_of, without, marked, count_of, attached_sessions}, Supervisor.Shared}
 
 pub data SharedEvent : Type 0 where
   -- a child of the present generation joins
   Join : (pid : ℕ) → (kind : Kind) → SharedEvent
-  Attach : (pid : ℕ) → SharedEvent
+  -- so many places are kept from this child
+  Attach : (pid reserve : ℕ) → SharedEvent
   Touch : (pid : ℕ) → SharedEvent
   Detach : (pid : ℕ) → SharedEvent
   -- a child of this kind has ended
@@ -20,15 +21,19 @@ pub data SharedEvent : Type 0 where
   Reset : SharedEvent
 
 -- where a child may attach: a session needs an open generation and room within the limit
-abbrev pub MayAttach : ℕ → Shared → Child → Type 0
-MayAttach limit s c =
+abbrev pub MayAttach : (limit reserve : ℕ) → Shared → Child → Type 0
+MayAttach limit reserve s c =
     (c.attached ≡ false) × (is_dead_end c.kind ≡ false) × (s.noticed ≡ None)
-    × (is_session c.kind ≡ true → (s.is_open ≡ true) × (attached_sessions s.children < limit))
+    × (is_session c.kind ≡ true → (s.is_open ≡ true) × (attached_sessions s.children + reserve < limit))
+
+-- from a child no places are kept, or those that are reserved
+abbrev pub IsReserve : (reserved reserve : ℕ) → Type 0
+IsReserve reserved reserve = (reserve ≡ 0) ⊎ (reserve ≡ reserved)
 
 -- an event may happen, where so many sessions may be attached
 abbrev pub Allows : ℕ → Shared → SharedEvent → Type 0
 Allows limit s (Join pid kind) = s.last_pid < pid
-Allows limit s (Attach pid) = IsSomeAnd (child_of pid s.children) (MayAttach limit s)
+Allows limit s (Attach pid reserve) = IsSomeAnd (child_of pid s.children) (MayAttach limit reserve s)
 Allows limit s (Touch pid) = IsSomeAnd (child_of pid s.children) (λ c. (c.attached ≡ true) × (c.generation ≡ s.generation))
 Allows limit s (Detach pid) = IsSomeAnd (child_of pid s.children) (λ c. c.attached ≡ true)
 Allows limit s (Leave pid kind) = IsSomeAnd (child_of pid s.children) (λ c. c.kind ≡ kind)
@@ -43,7 +48,7 @@ with_child pid kind s =
 
 abbrev pub after_shared : Shared → SharedEvent → Shared
 after_shared s (Join pid kind) = with_child pid kind s
-after_shared s (Attach pid) = record s { children = marked pid true s.children }
+after_shared s (Attach pid reserve) = record s { children = marked pid true s.children }
 after_shared s (Touch pid) = s
 after_shared s (Detach pid) = record s { children = marked pid false s.children }
 after_shared s (Leave pid kind) = record s { children = without pid s.children }

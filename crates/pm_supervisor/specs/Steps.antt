@@ -9,7 +9,7 @@ use Rattle.pm_modes.specs.{declared.Mode.Mode, Strength.{strengthen_of, is_immed
 use Rattle.pm_modes.specs.declared.Mode.TheVariants as mode
 use Rattle.pm_admit.specs.declared.Cac.{Cac}
 use Rattle.pm_admit.specs.declared.Cac.TheVariants as cac
-use Rattle.pm_supervisor.specs.{declared.{Limits.Limits, Reason.Reason, Ending.Ending}, Children.{Child, is_session, is_startup_child, is_checkpointer, is_writer, count_of, attached_sessions}, Phase.Phase, Supervisor.{Shared, Supervisor, first}, Shared.{SharedEvent, AllowsAny, after_any}}
+use Rattle.pm_supervisor.specs.{declared.{Limits.Limits, Reason.Reason, Ending.Ending}, Children.{Child, is_session, is_startup_child, is_checkpointer, is_writer, count_of, attached_sessions}, Phase.Phase, Supervisor.{Shared, Supervisor, first}, Shared.{SharedEvent, IsReserve, AllowsAny, after_any}}
 use Rattle.pm_supervisor.specs.declared.Reason.TheVariants as reason
 use Rattle.pm_supervisor.specs.declared.Ending.TheVariants as ending
 use Rattle.pm_supervisor.specs.Phase as phase
@@ -21,7 +21,7 @@ pub data SupervisorEvent : Type 0 where
   Accept : (pid : ℕ) → (decision : Cac) → SupervisorEvent
   -- another child is started
   Start : (pid : ℕ) → (kind : Kind) → SupervisorEvent
-  Attach : (pid : ℕ) → SupervisorEvent
+  Attach : (pid reserve : ℕ) → SupervisorEvent
   -- a child uses what its generation shares
   Touch : (pid : ℕ) → SupervisorEvent
   Detach : (pid : ℕ) → SupervisorEvent
@@ -115,7 +115,7 @@ kind_for _ = kind.DeadEnd
 abbrev pub shared_of : SupervisorEvent → Option SharedEvent
 shared_of (Accept pid decision) = Some (shared.Join pid (kind_for decision))
 shared_of (Start pid kind) = Some (shared.Join pid kind)
-shared_of (Attach pid) = Some (shared.Attach pid)
+shared_of (Attach pid reserve) = Some (shared.Attach pid reserve)
 shared_of (Touch pid) = Some (shared.Touch pid)
 shared_of (Detach pid) = Some (shared.Detach pid)
 shared_of (Exit pid kind status was_active) = Some (shared.Leave pid kind)
@@ -284,6 +284,7 @@ is_ended _ = false
 abbrev pub RestAllows : Limits → Supervisor → SupervisorEvent → Type 0
 RestAllows limits s (Accept pid decision) = (accepts s.phase ≡ true) × (decision ≡ admission limits s)
 RestAllows limits s (Start pid kind) = MayStart kind s
+RestAllows limits s (Attach pid reserve) = IsReserve limits.reserved reserve
 RestAllows limits s (Notice why) = MayNotice why s
 RestAllows limits s (Ask mode) = strengthen_of s.request mode ≡ Some mode
 RestAllows limits s Checkpointed = s.phase ≡ phase.Checkpointing

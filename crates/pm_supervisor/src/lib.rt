@@ -40,6 +40,8 @@ pub struct Limits {
     pub max_connections: u32,
     /// The number of background workers (`max_worker_processes`).
     pub max_worker_processes: u32,
+    /// Of the sessions so many are kept for user `postgres` (`superuser_reserved_connections`).
+    pub reserved: u32,
     /// Whether the server starts again after a crash (`restart_after_crash`).
     pub restart_after_crash: bool,
 }

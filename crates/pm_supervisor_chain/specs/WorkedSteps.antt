@@ -81,7 +81,7 @@ failed_steps =
 -- ---- what is shown of them
 
 abbrev pub limits : Limits
-limits = record { max_connections = 20; max_worker_processes = 0; restart_after_crash = true }
+limits = record { max_connections = 20; max_worker_processes = 0; reserved = 0; restart_after_crash = true }
 
 abbrev pub any_moment : ℕ → Bool
 any_moment at = true

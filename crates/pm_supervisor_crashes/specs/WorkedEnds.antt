@@ -9,7 +9,7 @@ use Rattle.pm_state.specs.declared.event.PmEvent.TheVariants as entry
 use Rattle.pm_supervisor_crashes.specs.{Crashes.{HasNoCrash, IsFirstCrash, IsUnasked, stands_behind}, Ends.{EndsAtMostOnce, IsNoReset}}
 
 abbrev pub limits : Limits
-limits = record { max_connections = 20; max_worker_processes = 0; restart_after_crash = true }
+limits = record { max_connections = 20; max_worker_processes = 0; reserved = 0; restart_after_crash = true }
 
 -- connections are served, a smart shutdown is asked for, and the last checkpoint
 abbrev pub closing : List PmEvent

@@ -41,11 +41,12 @@ pub(crate) struct Memory {
 
 impl Memory {
     ghost use Rattle.std.specs.Prelude.{◌≡◌, ℕ, ◌+◌, ◌≤◌, ◌<◌, [], ◌∷◌, length, max, false, OnOk, IfSome, IsTrue, ◌↔◌};
+    ghost use Rattle.pm_supervisor.specs.Limits.{IsWithinLimits};
     ghost use Rattle.pm_state.specs.{declared.action.Action.Action, Machine.{MayAccept, IsReady, IsCounted}, Shows.{Accepts, Asks, Ticks, TakesTurn}};
     ghost use Rattle.pm_supervisor_journal.specs.Standing.{standing_of, nothing_done, called, decision_on, exit_call, next_pid, owing, MayTake};
 
     pub(crate) fn new(alloc: Global, limits: Limits) -> Self
-        requires within { limits.max_connections + limits.max_worker_processes ≤ 200 }
+        requires within { IsWithinLimits limits }
         ensures { standing_of result ≡ nothing_done limits }
     {
         Memory {

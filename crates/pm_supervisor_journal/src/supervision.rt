@@ -38,13 +38,13 @@ pub struct Supervision<J: Chronicle<PmEvent>> {
 
 impl<J: Chronicle<PmEvent>> Supervision<J> {
     ghost use Rattle.std.specs.Prelude.{◌≡◌, ◌+◌, ◌≤◌, ◌<◌, ◌^◌, ◌↔◌, ℕ, [], ◌∷◌, false, true, Option, Some, Ok, IfOk, IfSome, IsTrue, OnOk, OnErr, IsSome};
-    ghost use Rattle.pm_supervisor.specs.{pm_exit.declared.child.Kind.Kind, declared.Limits.Limits, Steps.empty_trace};
+    ghost use Rattle.pm_supervisor.specs.{pm_exit.declared.child.Kind.Kind, declared.Limits.Limits, Limits.IsWithinLimits, Steps.empty_trace};
     ghost use Rattle.pm_supervisor_journal.specs.{declared.act.Act.TheVariants.Start, Roll.kind_in, Standing.{IsAtRest, MayTake, MayAsk, accepting, all_noted, exit_entry, redo_entries, asking, decision_on, ends_redo, exiting, made, next_of, next_pid, killed, kill_entry, nothing_done, ticking, turning}, Supervision.{HasRoom, at_work, standing, told}, Stands.{GoesOn, GoesOnBy, HasPast, IsSettled, Stands}};
     ghost use Rattle.pm_outside.specs.Added.{Added};
 
     /// A server before its start, over a journal without entries.
     pub fn new(alloc: Global, limits: Limits, journal: J) -> Self
-        requires within { limits.max_connections + limits.max_worker_processes ≤ 200 }
+        requires within { IsWithinLimits limits }
         ensures standing { standing result ≡ nothing_done limits }
         ensures told { told result ≡ J.entries journal }
         ensures stands { IfSome (J.entries journal) (λ entries. entries ≡ [])

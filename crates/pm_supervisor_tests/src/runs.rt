@@ -1,5 +1,6 @@
 //! Every run has the journal that is written out for it.
-ghost use Rattle.std.specs.Prelude.{◌≡◌};
+ghost use Rattle.std.specs.Prelude.{◌≤◌};
+ghost use Rattle.pm_supervisor_journal.specs.pm_state.pm_supervisor.Limits.{IsWithinLimits};
 
 use crate::server::{happen, new_server, number, parted};
 use crate::{admission, crashes, scene, shutdowns, startups};
@@ -10,12 +11,12 @@ use std::process::Abort;
 use std::test::Fail;
 
 pub fn limits(max_connections: u32, restart_after_crash: bool) -> Limits
-    ensures connections { result.max_connections ≡ max_connections }
-    ensures workers { result.max_worker_processes ≡ 0 }
+    ensures { max_connections ≤ 200 → IsWithinLimits result }
 {
     Limits {
         max_connections,
         max_worker_processes: 0,
+        reserved: 0,
         restart_after_crash,
     }
 }

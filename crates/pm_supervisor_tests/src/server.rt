@@ -1,6 +1,6 @@
 //! A server without processes, over the servers' machine: it tells its supervisor what happens, and an act is done once it is noted.
-ghost use Rattle.std.specs.Prelude.{◌+◌, ◌≤◌, IfSome, IsTrue, OnOk};
-ghost use Rattle.pm_supervisor_journal.specs.{Stands.{HasPast, IsSettled}, Supervision.{at_work, standing}};
+ghost use Rattle.std.specs.Prelude.{IfSome, IsTrue, OnOk};
+ghost use Rattle.pm_supervisor_journal.specs.{pm_state.pm_supervisor.Limits.IsWithinLimits, Stands.{HasPast, IsSettled}, Supervision.{at_work, standing}};
 ghost use Rattle.pm_supervisor_tests.specs.Serving.{IsServing, IsUnowed};
 
 use pm_exit::Status;
@@ -16,7 +16,7 @@ pub type Server = Supervision<Kept<PmEvent>>;
 
 /// A server before its start.
 pub fn new_server(alloc: Global, limits: Limits) -> Server
-    requires { limits.max_connections + limits.max_worker_processes ≤ 200 }
+    requires { IsWithinLimits limits }
     ensures { IsServing (at_work result) }
 {
     Supervision::new(alloc, limits, Kept::new(alloc))

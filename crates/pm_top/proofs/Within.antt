@@ -1,17 +1,19 @@
 -- The options of a line stay within what a server can have.
-use Rattle.std.{proofs.Common.{◌≡◌, ℕ, ◌+◌, ◌≤◌, List, [], ◌∷◌, Option, None, Some, sym, subst, arith}, specs.{Option.option_map, Prelude.unwrap_or}}
-use Rattle.pm_top_words.specs.{pm_server.declared.conf.Conf.Conf, declared.words.{Command.Command, Verb.{Verb, TheVariants.{Initdb, Once, Serve, Controldata, Workload}}}, Words.{Choice, Data, Port, MaxConnections, RestartAfterCrash, AuthenticationTimeout, Number, Choose, Chosen, IsLineWith, Says, command_of, nothing, with_choice}}
+use Rattle.std.{proofs.Common.{◌≡◌, ℕ, ◌+◌, ◌≤◌, List, [], ◌∷◌, Option, None, Some, inr, sym, subst, arith}, specs.{Option.option_map, Prelude.unwrap_or}}
+use Rattle.pm_state.specs.pm_supervisor.Limits.{IsWithinLimits}
+use Rattle.pm_top_words.specs.{pm_server.declared.conf.Conf.Conf, declared.words.{Command.Command, Verb.{Verb, TheVariants.{Initdb, Once, Serve, Controldata, Workload}}}, Words.{Choice, Data, Port, MaxConnections, SuperuserReserved, RestartAfterCrash, AuthenticationTimeout, Number, Choose, Chosen, IsLineWith, Says, command_of, nothing, with_choice}}
 use Rattle.pm_top_words.specs.declared.words.Command.TheVariants as command
 
--- from one to 64 connections were asked for
+-- from one to 200 connections were asked for
 abbrev IsFew : Chosen → Type 0
-IsFew chosen = (1 ≤ unwrap_or chosen.max_connections 20) × (unwrap_or chosen.max_connections 20 ≤ 64)
+IsFew chosen = (1 ≤ unwrap_or chosen.max_connections 20) × (unwrap_or chosen.max_connections 20 ≤ 200)
 
 few_with : (choice : Choice) (value : List ℕ) (before : Chosen) → Says choice value → IsFew before → IsFew (with_choice choice before)
 few_with (Data dir) value before says few = few
 few_with (Port port) value before says few = few
 few_with (Number number) value before says few = few
 few_with (MaxConnections count) value before says few = (says.from_least, says.to_most)
+few_with (SuperuserReserved count) value before says few = few
 few_with (RestartAfterCrash restarts) value before says few = few
 few_with (AuthenticationTimeout seconds) value before says few = few
 
@@ -33,10 +35,13 @@ some words command dir conf line =
     subst (λ (c : Conf). 1 ≤ c.limits.max_connections + c.limits.max_worker_processes) (sym line.conf_is) (omega (arith, few.0))
 
 pub within : (words : List (List ℕ)) (command : Command) (dir : List ℕ) (conf : Conf) → IsLineWith words command dir conf
-    → conf.limits.max_connections + conf.limits.max_worker_processes ≤ 200
+    → IsWithinLimits conf.limits
 within words command dir conf line =
     let few : IsFew line.chosen = few_in words command dir conf line in
-    subst (λ (c : Conf). c.limits.max_connections + c.limits.max_worker_processes ≤ 200) (sym line.conf_is) (omega (arith, few.1))
+    record {
+      few = subst (λ (c : Conf). c.limits.max_connections + c.limits.max_worker_processes ≤ 200) (sym line.conf_is) (omega (arith, few.1));
+      leaves = inr line.reserves;
+    }
 
 -- not more queries were asked for than a workload may have
 abbrev IsLow : Chosen → Type 0
@@ -46,6 +51,7 @@ low_with : (choice : Choice) (value : List ℕ) (before : Chosen) → Says choic
 low_with (Data dir) value before says low = low
 low_with (Port port) value before says low = low
 low_with (MaxConnections count) value before says low = low
+low_with (SuperuserReserved count) value before says low = low
 low_with (RestartAfterCrash restarts) value before says low = low
 low_with (AuthenticationTimeout seconds) value before says low = low
 low_with (Number number) value before says low = says.to_most

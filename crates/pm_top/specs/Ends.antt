@@ -56,7 +56,8 @@ abbrev pub usage_lines : List ℕ
 usage_lines =
     codes "usage: initdb --data D | controldata --data D | workload --number N\n"
     ++ codes "       once --data D [OPTIONS] | serve --data D --port P [OPTIONS]\n"
-    ++ codes "options: --max-connections 1..64, --restart-after-crash on|off, --authentication-timeout 1..600\n"
+    ++ codes "options: --max-connections 1..200, --superuser-reserved 0..max-connections-1,\n"
+    ++ codes "         --restart-after-crash on|off, --authentication-timeout 1..600\n"
 
 -- The line of a status. A server prints its lines itself.
 abbrev pub line_of : Top → List ℕ

@@ -1,6 +1,7 @@
 //! The commands that run in one thread: all but `serve`.
 
 ghost use Rattle.std.specs.Prelude.{◌≡◌, ◌≢◌, ◌+◌, ◌≤◌, ◌++◌, ℕ, [], List, codes, option_map, IfSome};
+ghost use Rattle.pm_state.specs.pm_supervisor.Limits.{IsWithinLimits};
 ghost use Rattle.pm_server.specs.{pm_disk.Cause.{IsCounted, Rose}, Outside.outside_view, pm_server_lines.Print.IsPrinted, pm_record.declared.fault.RedoFault.RedoFault, declared.conf.Conf.Conf};
 ghost use Rattle.pm_load_run.specs.{pm_redo.Found.IsReason, Worked.HasTold as HasWorked};
 ghost use Rattle.pm_top.specs.{Cluster.{HasNewCluster, IsFree, IsLeftAlone, IsTaken, KeepsTaken}, Control.HasTold, Ends.{HasAnswer, HasSaid, IsControldataEnd, IsInitdbEnd, initdb_line, line_of}, Load.IsWorkloadEnd, Once.RunsOnce, Serve.IsNoServeLine};
@@ -27,7 +28,8 @@ use std::time;
 /// The commands, each with its options.
 const USAGE: &[u8] = b"usage: initdb --data D | controldata --data D | workload --number N
        once --data D [OPTIONS] | serve --data D --port P [OPTIONS]
-options: --max-connections 1..64, --restart-after-crash on|off, --authentication-timeout 1..600
+options: --max-connections 1..200, --superuser-reserved 0..max-connections-1,
+         --restart-after-crash on|off, --authentication-timeout 1..600
 ";
 
 /// Does what the words ask, where they don't ask for a server of many connections. The journal that it is given has no
@@ -144,7 +146,7 @@ where
     C: Clock,
     J: Chronicle<PmEvent>,
     B: Chronicle<BookEntry>,
-    requires within { conf.now.limits.max_connections + conf.now.limits.max_worker_processes ≤ 200 }
+    requires within { IsWithinLimits conf.now.limits }
     requires empty { IfSome (J.entries outside.journal) (λ entries. entries ≡ []) }
     ensures run { RunsOnce conf.now result.status (outside_view outside)
         (outside_view result.outside) }

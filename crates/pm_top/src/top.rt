@@ -1,6 +1,7 @@
 //! The top call: all that the program does, over the outside that it is handed.
 
 ghost use Rattle.std.specs.Prelude.{◌≡◌, ◌≢◌, ◌+◌, ◌≤◌, ◌++◌, ℕ, [], List, codes, option_map, IfNone, IfSome};
+ghost use Rattle.pm_state.specs.pm_supervisor.Limits.{IsWithinLimits};
 ghost use Rattle.pm_server.specs.{pm_disk.Cause.Rose, Outside.outside_view, pm_outside.Visits.no_visits, pm_record.declared.fault.RedoFault.RedoFault, declared.conf.Conf.Conf};
 ghost use Rattle.pm_postmaster.specs.Outside.{serve_view};
 ghost use Rattle.pm_load_run.specs.{pm_redo.Found.IsReason, Worked.HasTold as HasWorked};
@@ -167,7 +168,7 @@ where
     J: Chronicle<PmEvent>,
     B: Chronicle<BookEntry> + Drop + Send + 'static,
     requires some { 1 ≤ conf.now.limits.max_connections + conf.now.limits.max_worker_processes }
-    requires within { conf.now.limits.max_connections + conf.now.limits.max_worker_processes ≤ 200 }
+    requires within { IsWithinLimits conf.now.limits }
     requires journal { IfSome (J.entries outside.journal) (λ entries. entries ≡ []) }
     requires book { IfSome (B.entries outside.book) (λ entries. entries ≡ []) }
     requires port { IfSome (P.visits outside.port) (λ visits. visits ≡ no_visits) }

@@ -1,7 +1,7 @@
 //! What the commands say of files, and of words that are no command line.
 use crate::play::play;
 use crate::runs::words_of;
-use pm_top::misfit;
+use pm_top::{WordsNo, misfit, read_words};
 use std::test::Fail;
 
 /// Commands over files, where nothing fails.
@@ -49,10 +49,31 @@ says USAGE
 $ workload --data x
 ends Usage 2
 says USAGE
-$ once --data x --max-connections 65
+$ once --data x --max-connections 201
 ends Usage 2
 says USAGE
 $ once --data x --max-connections 0
+ends Usage 2
+says USAGE
+$ once --data x --superuser-reserved 20
+ends Usage 2
+says USAGE
+$ once --data x --superuser-reserved -1
+ends Usage 2
+says USAGE
+$ once --data x --superuser-reserved=
+ends Usage 2
+says USAGE
+$ once --data x --superuser-reserved 1 --superuser-reserved 1
+ends Usage 2
+says USAGE
+$ serve --data x --port 5432 --max-connections 1 --superuser-reserved 1
+ends Usage 2
+says USAGE
+$ serve --data x --port 5432 --superuser-reserved 1 --max-connections 1
+ends Usage 2
+says USAGE
+$ initdb --data x --superuser-reserved 0
 ends Usage 2
 says USAGE
 $ once --data x --restart-after-crash no
@@ -242,7 +263,16 @@ Some(2): once --data --port
 Some(3): initdb --data folder --data other
 Some(3): serve --data folder --prot 5432
 Some(4): serve --data folder --port 0
-Some(2): serve --port=5432 --max-connections=65
+Some(2): serve --port=5432 --max-connections=201
+None: once --superuser-reserved=20
+None: once --superuser-reserved 199 --max-connections
+Some(2): once --superuser-reserved 200
+Some(2): once --superuser-reserved -1
+Some(2): once --superuser-reserved=0 --superuser-reserved=0
+Some(4): once --max-connections 20 --superuser-reserved 20
+Some(4): once --superuser-reserved 20 --max-connections 20
+Some(2): serve --superuser-reserved=20 --max-connections=20 --port 5432
+Some(1): workload --superuser-reserved 0
 Some(4): once --data folder --restart-after-crash maybe
 Some(3): once --data folder -- --restart-after-crash";
 
@@ -257,6 +287,51 @@ fn the_first_word_that_does_not_fit_is_found(rt: HostRuntime) -> Result<(), Fail
             want,
             "{line}"
         );
+    }
+    Ok(())
+}
+
+/// Words after how many connections are reserved of how many, or after what they get in place of it.
+const RESERVED: &str = r"
+usage: once --data d --max-connections 0
+usage: once --data d --max-connections 201
+usage: once --data d --superuser-reserved 20
+usage: once --data d --superuser-reserved 200
+usage: once --data d --superuser-reserved -1
+usage: once --data d --superuser-reserved=-1
+usage: once --data d --superuser-reserved +1
+usage: once --data d --superuser-reserved=
+usage: once --data d --superuser-reserved
+usage: once --data d --superuser-reserved 0 --superuser-reserved 0
+usage: once --data d --max-connections 1 --superuser-reserved 1
+usage: once --data d --superuser-reserved 1 --max-connections 1
+usage: serve --data d --port 1 --max-connections 200 --superuser-reserved 200
+usage: initdb --data d --superuser-reserved 0
+usage: controldata --data d --superuser-reserved 0
+usage: workload --number 1 --superuser-reserved 0
+0 of 20: once --data d
+0 of 20: once --data d --superuser-reserved 0
+19 of 20: once --data d --superuser-reserved 19
+0 of 1: once --data d --max-connections 1
+0 of 1: serve --superuser-reserved=0 --max-connections=1 --data d --port 1
+199 of 200: serve --data d --port 1 --max-connections 200 --superuser-reserved 199
+199 of 200: serve --superuser-reserved 199 --data d --port 1 --max-connections 200
+3 of 200: once --superuser-reserved=3 --data d --max-connections=200";
+
+#[test]
+fn fewer_connections_are_reserved_than_there_may_be(rt: HostRuntime) -> Result<(), Fail> {
+    let alloc = rt.alloc();
+    for line in RESERVED.lines() {
+        let (want, rest) = line.split_once(':').unwrap_or(("usage", ""));
+        let words = words_of(alloc, rest)?;
+        let read = match read_words(&words) {
+            Ok(line) => {
+                let limits = line.conf.limits;
+                format!(in alloc; "{} of {}", limits.reserved, limits.max_connections)?
+            }
+            Err(WordsNo::Usage) => format!(in alloc; "usage")?,
+        };
+        assert_eq!(rt; read.as_str(), want, "{line}");
     }
     Ok(())
 }

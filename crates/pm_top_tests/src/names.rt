@@ -149,7 +149,7 @@ STARTUP_KILLED = LOG:  child 1 (startup) was terminated by signal 9\n
 ABORTING = LOG:  aborting startup due to startup process failure\n
 NO_CLUSTER = no readable cluster\n
 # what commands say
-USAGE = usage: initdb --data D | controldata --data D | workload --number N\n       once --data D [OPTIONS] | serve --data D --port P [OPTIONS]\noptions: --max-connections 1..64, --restart-after-crash on|off, --authentication-timeout 1..600\n
+USAGE = usage: initdb --data D | controldata --data D | workload --number N\n       once --data D [OPTIONS] | serve --data D --port P [OPTIONS]\noptions: --max-connections 1..200, --superuser-reserved 0..max-connections-1,\n         --restart-after-crash on|off, --authentication-timeout 1..600\n
 DISK_FAULT = disk fault\n
 NO_THREAD = no thread\n
 WAS_KILLED = startup was killed\n

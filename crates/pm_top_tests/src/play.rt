@@ -8,7 +8,7 @@
 //! | `fail disk 7` | the seventh call of the disk from here on fails, whichever run makes it; at 0 none does |
 //! | `fail from 7` | each call of the disk fails from the seventh on |
 //! | `fail read 2` | that read of each link fails; or that `write`, `accept` of the port, or write of a `line` |
-//! | `threads 9` | so many threads can be made, and not 64 |
+//! | `threads 9` | so many threads can be made, and not 407 |
 //! | `time runs` | a millisecond passes with each pause of the supervisor: else the clock stands still. Where it `races`, one does with each of a child, too |
 //! | `read CUE`, `write CUE` | the disk's first read or write waits for that |
 //! | `link CUE : WORDS` | a link over which this comes in, before which the port waits for the cue |

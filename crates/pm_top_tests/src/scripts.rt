@@ -65,10 +65,10 @@ pub struct Setup {
     pub lines: Vec<ScriptLine>,
 }
 
-/// Threads enough, and nothing else.
+/// As many threads as any server has, and nothing else.
 pub fn plain(alloc: Global) -> Setup {
     Setup {
-        threads: 64,
+        threads: 407,
         time: Time::Stands,
         withheld: Withheld::FirstRead,
         until: Cue::Lines(0),

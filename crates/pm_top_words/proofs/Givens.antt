@@ -1,6 +1,6 @@
 -- Words begin with one option alone, and options are read one after the other.
 use Rattle.std.{proofs.{Common.{◌≡◌, ◌≢◌, ℕ, ◌<◌, ◌≤◌, ◌-◌, suc, true, false, Bool, List, [], ◌∷◌, ◌++◌, Option, Some, None, length, get_or, take, drop, refl, ap, sym, ◌∙◌, subst, inl, inr, arith, length-append}, lemmas.List.take_all}, specs.{Prelude.{◌⊎◌, codes, nat_eq, not, IfSome, IfNone}, List.list_all}}
-use Rattle.pm_top_words.specs.{declared.words.Verb.Verb, Words.{Choice, Data, Port, MaxConnections, RestartAfterCrash, AuthenticationTimeout, Number, Choose, Chosen, MayChoose, Says, Spells, option_name, with_choice}, Options.{BeginsWith, BeginsWithOption, IsName, IsPlain, Leaves}}
+use Rattle.pm_top_words.specs.{declared.words.Verb.Verb, Words.{Choice, Data, Port, MaxConnections, SuperuserReserved, RestartAfterCrash, AuthenticationTimeout, Number, Choose, Chosen, MayChoose, Says, Spells, option_name, with_choice}, Options.{BeginsWith, BeginsWithOption, IsName, IsPlain, Leaves}}
 
 -- ---- names
 
@@ -12,6 +12,7 @@ pub is_name : (choice : Choice) → IsName (option_name choice)
 is_name (Data dir) = by_test (codes "--data") refl
 is_name (Port port) = by_test (codes "--port") refl
 is_name (MaxConnections count) = by_test (codes "--max-connections") refl
+is_name (SuperuserReserved count) = by_test (codes "--superuser-reserved") refl
 is_name (RestartAfterCrash restarts) = by_test (codes "--restart-after-crash") refl
 is_name (AuthenticationTimeout seconds) = by_test (codes "--authentication-timeout") refl
 is_name (Number number) = by_test (codes "--number") refl
@@ -108,6 +109,7 @@ same-choice : (one two : Choice) (value : List ℕ) → option_name one ≡ opti
 same-choice (Data dir) (Data other) value name first second = ap Data (sym first ∙ second)
 same-choice (Port port) (Port other) value name first second = ap Port (first.number_is ∙ sym second.number_is)
 same-choice (MaxConnections count) (MaxConnections other) value name first second = ap MaxConnections (first.number_is ∙ sym second.number_is)
+same-choice (SuperuserReserved count) (SuperuserReserved other) value name first second = ap SuperuserReserved (first.number_is ∙ sym second.number_is)
 same-choice (RestartAfterCrash restarts) (RestartAfterCrash other) value name first second = ap RestartAfterCrash (same-flag restarts other value first second)
 same-choice (AuthenticationTimeout seconds) (AuthenticationTimeout other) value name first second =
     ap AuthenticationTimeout (first.number_is ∙ sym second.number_is)

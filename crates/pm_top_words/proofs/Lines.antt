@@ -1,7 +1,7 @@
 -- Words are one line alone.
 use Rattle.std.proofs.Common.{◌≡◌, ℕ, List, ◌∷◌, Some, None, length, refl, sym, ◌∙◌, ap, subst, arith}
 use Rattle.pm_server.specs.declared.conf.Conf.{Conf}
-use Rattle.pm_top_words.specs.{declared.words.{Command.Command, Verb.{Verb, TheVariants.{Initdb, Once, Serve, Controldata, Workload}}}, Words.{Choose, Chosen, IsLineWith, command_of, conf_of, folder_of, nothing, verb_word}, Options.Leaves}
+use Rattle.pm_top_words.specs.{declared.words.{Command.Command, Verb.{Verb, TheVariants.{Initdb, Once, Serve, Controldata, Workload}}}, Words.{Choose, Chosen, IsLineWith, ReservesFewer, command_of, conf_of, folder_of, nothing, verb_word}, Options.Leaves}
 
 -- the verbs' words are of five lengths
 by_length : (one two : Verb) → length (verb_word one) ≡ length (verb_word two) → one ≡ two
@@ -19,6 +19,7 @@ pub record Given (verb : Verb) (tail : List (List ℕ)) (command : Command) (dir
   pub asks : command_of verb after ≡ Some command
   pub folder : folder_of verb after ≡ Some dir
   pub conf_is : conf ≡ conf_of after
+  pub reserves : ReservesFewer (conf_of after)
 
 pub given : (words : List (List ℕ)) (verb : Verb) (tail : List (List ℕ)) (command : Command) (dir : List ℕ) (conf : Conf)
     → words ≡ verb_word verb ∷ tail → IsLineWith words command dir conf → Given verb tail command dir conf
@@ -38,6 +39,7 @@ given words verb tail command dir conf are line =
       asks = subst (λ v. command_of v line.chosen ≡ Some command) same line.asks;
       folder = subst (λ v. folder_of v line.chosen ≡ Some dir) same line.folder;
       conf_is = line.conf_is;
+      reserves = subst ReservesFewer line.conf_is line.reserves;
     }
 
 pub not_none : {X : Type 0} (one : X) → Some one ≡ None → ⊥

@@ -1,6 +1,6 @@
 -- Which words a command line may begin with.
 use Rattle.std.specs.Prelude.{◌≡◌, ℕ, ◌+◌, ◌<◌, List, ◌++◌, length, take, Some}
-use Rattle.pm_top_words.specs.{declared.words.{Command.Command, Verb.Verb}, Words.{Choice, Chosen, IsLine, MayChoose, command_of, folder_of, option_name}, Options.Leaves}
+use Rattle.pm_top_words.specs.{declared.words.{Command.Command, Verb.Verb}, Words.{Choice, Chosen, IsLine, MayChoose, ReservesFewer, command_of, conf_of, folder_of, option_name}, Options.Leaves}
 
 -- with these words after them, or with others, they are a command line
 pub record BeginsLine (front : List (List ℕ)) : Type 0 where
@@ -25,6 +25,7 @@ pub record BeginsOptions (verb : Verb) (before : Chosen) (front : List (List ℕ
   pub leaves : Leaves verb before (front ++ rest) after
   pub asks : command_of verb after ≡ Some command
   pub folder : folder_of verb after ≡ Some dir
+  pub reserves : ReservesFewer (conf_of after)
 
 pub record IsOptionMisfit (verb : Verb) (chosen : Chosen) (words : List (List ℕ)) (at : ℕ) : Type 0 where
   pub within : at < length words

@@ -1,6 +1,6 @@
 -- How options are read, from left to right.
-use Rattle.std.specs.{Prelude.{◌≡◌, ◌≢◌, ℕ, List, [], ◌++◌, slice_get, Some, option_map}, List.AllByRecursion}
-use Rattle.pm_top_words.specs.{declared.{options.{Setting.Setting, Settings.Settings}, words.Verb.Verb}, Words.{Choice, Data, Port, MaxConnections, RestartAfterCrash, AuthenticationTimeout, Number, Choose, Chosen, IsGiven, Spells}}
+use Rattle.std.specs.{Prelude.{◌≡◌, ◌≢◌, ℕ, ◌<◌, List, [], ◌++◌, slice_get, Some, option_map, unwrap_or}, List.AllByRecursion}
+use Rattle.pm_top_words.specs.{declared.{options.{Setting.Setting, Settings.Settings}, words.Verb.{Verb, TheVariants.{Once, Serve}}}, Words.{Choice, Data, Port, MaxConnections, SuperuserReserved, RestartAfterCrash, AuthenticationTimeout, Number, Choose, Chosen, IsGiven, Spells}}
 use Rattle.pm_top_words.specs.declared.options.Setting.TheVariants as setting
 
 -- what the code has of an option
@@ -8,6 +8,7 @@ abbrev pub choice_of : Setting → Choice
 choice_of (setting.Data dir) = Data dir.now
 choice_of (setting.Port port) = Port port
 choice_of (setting.MaxConnections count) = MaxConnections count
+choice_of (setting.SuperuserReserved count) = SuperuserReserved count
 choice_of (setting.RestartAfterCrash restarts) = RestartAfterCrash restarts
 choice_of (setting.AuthenticationTimeout seconds) = AuthenticationTimeout seconds
 choice_of (setting.Number number) = Number number
@@ -19,6 +20,7 @@ chosen_of settings =
       dir = option_map (λ dir. dir.now) settings.dir;
       port = settings.port;
       max_connections = settings.max_connections;
+      reserved = settings.reserved;
       restart_after_crash = settings.restart_after_crash;
       authentication_seconds = settings.authentication_seconds;
       number = settings.number;
@@ -49,3 +51,15 @@ pub record BeginsWithOption (words : List (List ℕ)) (choice : Choice) (behind 
 pub record Leaves (verb : Verb) (before : Chosen) (words : List (List ℕ)) (after : Chosen) : Type 0 where
   pub choices : List Choice
   pub choose : Choose verb before choices words after
+
+-- ---- what an option to come can still make right
+
+-- how many connections there may be at most, as long as it wasn't chosen
+abbrev pub most_for : Verb → ℕ
+most_for Once = 200
+most_for Serve = 200
+most_for verb = 20
+
+-- fewer are reserved than there may still be
+abbrev pub CanReserve : Verb → Chosen → Type 0
+CanReserve verb chosen = unwrap_or chosen.reserved 0 < unwrap_or chosen.max_connections (most_for verb)

@@ -1,5 +1,5 @@
 -- The words of the command line: a command, and options in any order, each at most once.
-use Rattle.std.specs.{Prelude.{◌≡◌, ◌≢◌, ◌⊎◌, ℕ, ◌*◌, ◌≤◌, Bool, true, false, List, [], ◌∷◌, ◌++◌, codes, length, slice_get, Option, None, Some, option_map, unwrap_or}, Str.Parse.{IsNumeral, digits_value}}
+use Rattle.std.specs.{Prelude.{◌≡◌, ◌≢◌, ◌⊎◌, ℕ, ◌*◌, ◌<◌, ◌≤◌, Bool, true, false, List, [], ◌∷◌, ◌++◌, codes, length, slice_get, Option, None, Some, option_map, unwrap_or}, Str.Parse.{IsNumeral, digits_value}}
 use Rattle.pm_server.specs.declared.conf.Conf.{Conf}
 use Rattle.pm_top_words.specs.declared.words.{Command.Command, Verb.{Verb, TheVariants.{Initdb, Once, Serve, Controldata, Workload}}}
 use Rattle.pm_top_words.specs.declared.words.Command.TheVariants as command
@@ -19,6 +19,7 @@ pub data Choice : Type 0 where
   Data : (dir : List ℕ) → Choice
   Port : (port : ℕ) → Choice
   MaxConnections : (count : ℕ) → Choice
+  SuperuserReserved : (count : ℕ) → Choice
   RestartAfterCrash : (restarts : Bool) → Choice
   AuthenticationTimeout : (seconds : ℕ) → Choice
   Number : (number : ℕ) → Choice
@@ -27,6 +28,7 @@ abbrev pub option_name : Choice → List ℕ
 option_name (Data dir) = codes "--data"
 option_name (Port port) = codes "--port"
 option_name (MaxConnections count) = codes "--max-connections"
+option_name (SuperuserReserved count) = codes "--superuser-reserved"
 option_name (RestartAfterCrash restarts) = codes "--restart-after-crash"
 option_name (AuthenticationTimeout seconds) = codes "--authentication-timeout"
 option_name (Number number) = codes "--number"
@@ -43,7 +45,8 @@ pub record IsNumberIn (least most number : ℕ) (value : List ℕ) : Type 0 wher
 abbrev pub Says : Choice → (value : List ℕ) → Type 0
 Says (Data dir) value = value ≡ dir
 Says (Port port) value = IsNumberIn 1 65535 port value
-Says (MaxConnections count) value = IsNumberIn 1 64 count value
+Says (MaxConnections count) value = IsNumberIn 1 200 count value
+Says (SuperuserReserved count) value = IsNumberIn 0 199 count value
 Says (RestartAfterCrash true) value = value ≡ codes "on"
 Says (RestartAfterCrash false) value = value ≡ codes "off"
 Says (AuthenticationTimeout seconds) value = IsNumberIn 1 600 seconds value
@@ -78,19 +81,21 @@ pub record Chosen : Type 0 where
   pub dir : Option (List ℕ)
   pub port : Option ℕ
   pub max_connections : Option ℕ
+  pub reserved : Option ℕ
   pub restart_after_crash : Option Bool
   pub authentication_seconds : Option ℕ
   pub number : Option ℕ
 
 abbrev pub nothing : Chosen
 nothing =
-    record { dir = None; port = None; max_connections = None; restart_after_crash = None; authentication_seconds = None; number = None }
+    record { dir = None; port = None; max_connections = None; reserved = None; restart_after_crash = None; authentication_seconds = None; number = None }
 
 -- this option wasn't given yet
 abbrev pub IsOpen : Choice → Chosen → Type 0
 IsOpen (Data dir) chosen = chosen.dir ≡ None
 IsOpen (Port port) chosen = chosen.port ≡ None
 IsOpen (MaxConnections count) chosen = chosen.max_connections ≡ None
+IsOpen (SuperuserReserved count) chosen = chosen.reserved ≡ None
 IsOpen (RestartAfterCrash restarts) chosen = chosen.restart_after_crash ≡ None
 IsOpen (AuthenticationTimeout seconds) chosen = chosen.authentication_seconds ≡ None
 IsOpen (Number number) chosen = chosen.number ≡ None
@@ -99,6 +104,7 @@ abbrev pub with_choice : Choice → Chosen → Chosen
 with_choice (Data dir) chosen = record chosen { dir = Some dir }
 with_choice (Port port) chosen = record chosen { port = Some port }
 with_choice (MaxConnections count) chosen = record chosen { max_connections = Some count }
+with_choice (SuperuserReserved count) chosen = record chosen { reserved = Some count }
 with_choice (RestartAfterCrash restarts) chosen = record chosen { restart_after_crash = Some restarts }
 with_choice (AuthenticationTimeout seconds) chosen = record chosen { authentication_seconds = Some seconds }
 with_choice (Number number) chosen = record chosen { number = Some number }
@@ -114,12 +120,14 @@ Choose verb before (choice ∷ choices) words after =
     (first : List (List ℕ)) × (rest : List (List ℕ)) × (words ≡ first ++ rest) × Spells choice first × (IsFor verb choice × IsOpen choice before)
     × Choose verb (with_choice choice before) choices rest after
 
--- what a server goes by: by default up to 20 connections, a restart after a crash, and 60 seconds for a client to log in
+-- what a server goes by: by default up to 20 connections of which none is reserved, a restart after a crash, and 60 seconds for a
+-- client to log in
 abbrev pub conf_of : Chosen → Conf
 conf_of chosen = record {
   limits = record {
     max_connections = unwrap_or chosen.max_connections 20;
     max_worker_processes = 0;
+    reserved = unwrap_or chosen.reserved 0;
     restart_after_crash = unwrap_or chosen.restart_after_crash true;
   };
   session = record { authentication_ms = unwrap_or chosen.authentication_seconds 60 * 1000 };
@@ -140,6 +148,10 @@ folder_of verb chosen = chosen.dir
 
 -- ---- a line
 
+-- fewer connections are reserved than there may be
+abbrev pub ReservesFewer : Conf → Type 0
+ReservesFewer conf = conf.limits.reserved < conf.limits.max_connections
+
 -- a command with its options, those among them that it wants
 pub record IsLineWith (words : List (List ℕ)) (command : Command) (dir : List ℕ) (conf : Conf) : Type 0 where
   pub verb : Verb
@@ -151,6 +163,7 @@ pub record IsLineWith (words : List (List ℕ)) (command : Command) (dir : List 
   pub asks : command_of verb chosen ≡ Some command
   pub folder : folder_of verb chosen ≡ Some dir
   pub conf_is : conf ≡ conf_of chosen
+  pub reserves : ReservesFewer conf
 
 -- no other line is spelled by the words
 abbrev pub IsOnlyLine : List (List ℕ) → Command → List ℕ → Conf → Type 0

@@ -1,7 +1,7 @@
 //! Which word of a command line doesn't fit.
 
 ghost use Rattle.std.specs.Prelude.{◌<◌, ◌↔◌, ℕ, List, length, IfNone, IfSome, IsTrue};
-ghost use Rattle.pm_top_words.specs.{Words.Choice, Options.{BeginsWithOption, chosen_of}, Begins.{BeginsLine, BeginsOptions, IsMisfit, IsOpenName, IsOptionMisfit}};
+ghost use Rattle.pm_top_words.specs.{Words.Choice, Options.{BeginsWithOption, CanReserve, chosen_of}, Begins.{BeginsLine, BeginsOptions, IsMisfit, IsOpenName, IsOptionMisfit}};
 
 use crate::options::{Setting, Settings, next_option};
 use crate::words::{Verb, verb_named};
@@ -27,6 +27,7 @@ pub fn misfit(words: &[Text]) -> Option<usize>
 
 // The same of options after those that were given before.
 fn option_misfit<'a>(verb: Verb, before: Settings<'a>, words: &'a [Text]) -> Option<usize>
+    requires { CanReserve verb (chosen_of before) }
     ensures found { IfSome result (IsOptionMisfit verb (chosen_of before.entry) words.now) }
     ensures none { IfNone result (BeginsOptions verb (chosen_of before.entry) words.now) }
 {
@@ -39,7 +40,11 @@ fn option_misfit<'a>(verb: Verb, before: Settings<'a>, words: &'a [Text]) -> Opt
     if !before.may_take(verb, next.setting) {
         return Some(0);
     }
-    match option_misfit(verb, before.with(next.setting), next.behind) {
+    let chosen = before.with(next.setting);
+    if !chosen.can_reserve(verb) {
+        return Some(words.len() - next.behind.len() - 1);
+    }
+    match option_misfit(verb, chosen, next.behind) {
         Some(at) => Some(words.len() - next.behind.len() + at),
         None => None,
     }
@@ -48,6 +53,7 @@ fn option_misfit<'a>(verb: Verb, before: Settings<'a>, words: &'a [Text]) -> Opt
 // The same of words that begin with no option: a name of one, after which its value is missing or is none, or a word that is
 // no name.
 fn place_of_misfit(verb: Verb, before: &Settings<'_>, words: &[Text]) -> Option<usize>
+    requires can { CanReserve verb (chosen_of before.now) }
     requires some { 0 < length words.now }
     requires none { (choice : Choice) (behind : List (List ℕ))
         → ¬ (BeginsWithOption words.now choice behind) }
@@ -71,6 +77,7 @@ fn may_name(verb: Verb, before: &Settings<'_>, name: &str) -> bool
         "--data" => Setting::Data(""),
         "--port" => Setting::Port(1),
         "--max-connections" => Setting::MaxConnections(1),
+        "--superuser-reserved" => Setting::SuperuserReserved(0),
         "--restart-after-crash" => Setting::RestartAfterCrash(true),
         "--authentication-timeout" => Setting::AuthenticationTimeout(1),
         "--number" => Setting::Number(0),

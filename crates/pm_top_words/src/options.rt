@@ -1,7 +1,7 @@
 //! The options of the command line.
 
 ghost use Rattle.std.specs.Prelude.{◌≡◌, ◌↔◌, ℕ, List, ◌∷◌, IfSome, IfNone, IsTrue, option_map};
-ghost use Rattle.pm_top_words.specs.{Words.{Choice, Chosen, IsNumberIn, MayChoose, Says, command_of, conf_of, folder_of, nothing, option_name, with_choice}, Options.{BeginsWith, BeginsWithOption, IsPlain, Leaves, choice_of, chosen_of}};
+ghost use Rattle.pm_top_words.specs.{Words.{Choice, Chosen, IsNumberIn, MayChoose, Says, command_of, conf_of, folder_of, nothing, option_name, with_choice}, Options.{BeginsWith, BeginsWithOption, CanReserve, IsPlain, Leaves, choice_of, chosen_of}};
 
 use crate::words::{Command, Verb};
 use pm_rows::Text;
@@ -16,7 +16,10 @@ const LAST_PORT: u32 = 65_535;
 const DEFAULT_CONNECTIONS: u32 = 20;
 
 /// The same, at most.
-const MOST_CONNECTIONS: u32 = 64;
+const MOST_CONNECTIONS: u32 = 200;
+
+/// How many of them may be reserved at most. They are fewer than there may be.
+const MOST_RESERVED: u32 = 199;
 
 /// How many seconds a client may take up to its startup packet, by default.
 const DEFAULT_SECONDS: u32 = 60;
@@ -33,6 +36,7 @@ pub(crate) enum Setting<'a> {
     Data(&'a str),
     Port(u16),
     MaxConnections(u32),
+    SuperuserReserved(u32),
     RestartAfterCrash(bool),
     AuthenticationTimeout(u32),
     Number(u32),
@@ -44,6 +48,7 @@ pub(crate) struct Settings<'a> {
     pub(crate) dir: Option<&'a str>,
     pub(crate) port: Option<u16>,
     pub(crate) max_connections: Option<u32>,
+    pub(crate) reserved: Option<u32>,
     pub(crate) restart_after_crash: Option<bool>,
     pub(crate) authentication_seconds: Option<u32>,
     pub(crate) number: Option<u32>,
@@ -57,6 +62,7 @@ impl<'a> Settings<'a> {
             dir: None,
             port: None,
             max_connections: None,
+            reserved: None,
             restart_after_crash: None,
             authentication_seconds: None,
             number: None,
@@ -72,6 +78,7 @@ impl<'a> Settings<'a> {
             Setting::Data(_) => verb != Verb::Workload && self.dir.is_none(),
             Setting::Port(_) => verb == Verb::Serve && self.port.is_none(),
             Setting::MaxConnections(_) => of_server && self.max_connections.is_none(),
+            Setting::SuperuserReserved(_) => of_server && self.reserved.is_none(),
             Setting::RestartAfterCrash(_) => of_server && self.restart_after_crash.is_none(),
             Setting::AuthenticationTimeout(_) => {
                 of_server && self.authentication_seconds.is_none()
@@ -88,6 +95,7 @@ impl<'a> Settings<'a> {
             Setting::Data(dir) => self.dir = Some(dir),
             Setting::Port(port) => self.port = Some(port),
             Setting::MaxConnections(count) => self.max_connections = Some(count),
+            Setting::SuperuserReserved(count) => self.reserved = Some(count),
             Setting::RestartAfterCrash(restarts) => self.restart_after_crash = Some(restarts),
             Setting::AuthenticationTimeout(seconds) => {
                 self.authentication_seconds = Some(seconds);
@@ -95,6 +103,17 @@ impl<'a> Settings<'a> {
             Setting::Number(number) => self.number = Some(number),
         }
         self
+    }
+
+    // Whether fewer connections are reserved than there may still be.
+    pub(crate) fn can_reserve(&self, verb: Verb) -> bool
+        ensures { IsTrue result ↔ CanReserve verb (chosen_of self.now) }
+    {
+        let most = match verb {
+            Verb::Once | Verb::Serve => MOST_CONNECTIONS,
+            Verb::Initdb | Verb::Controldata | Verb::Workload => DEFAULT_CONNECTIONS,
+        };
+        self.reserved.unwrap_or(0) < self.max_connections.unwrap_or(most)
     }
 
     // What the program is asked to do. None where an option is missing that the command wants.
@@ -135,6 +154,7 @@ impl<'a> Settings<'a> {
             limits: Limits {
                 max_connections: self.max_connections.unwrap_or(DEFAULT_CONNECTIONS),
                 max_worker_processes: 0,
+                reserved: self.reserved.unwrap_or(0),
                 restart_after_crash: self.restart_after_crash.unwrap_or(true),
             },
             session: SessionConf {
@@ -283,6 +303,10 @@ fn setting_named<'a>(name: &str, value: &'a str) -> Option<Setting<'a>>
         },
         "--max-connections" => match number(value, 1, MOST_CONNECTIONS) {
             Some(count) => Some(Setting::MaxConnections(count)),
+            None => None,
+        },
+        "--superuser-reserved" => match number(value, 0, MOST_RESERVED) {
+            Some(count) => Some(Setting::SuperuserReserved(count)),
             None => None,
         },
         "--restart-after-crash" => match value {

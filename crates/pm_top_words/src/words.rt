@@ -54,12 +54,13 @@ pub enum WordsNo {
 ///
 /// - `--data`: the folder of the cluster. Each command wants it but `workload`, which has none.
 /// - `--port`: 1 to 65535. For `serve` alone, which wants it.
-/// - `--max-connections`: 1 to 64, and 20 by default.
+/// - `--max-connections`: 1 to 200, and 20 by default.
+/// - `--superuser-reserved`: how many of them are kept for user `postgres`: fewer than there may be, and none by default.
 /// - `--restart-after-crash`: `on`, the default, or `off`.
 /// - `--authentication-timeout`: 1 to 600 seconds, and 60 by default.
 /// - `--number`: 0 to 100000. For `workload` alone, which wants it.
 ///
-/// The third to fifth are for `once` and `serve` alone. A number has one to ten digits.
+/// The third to sixth are for `once` and `serve` alone. A number has one to ten digits.
 pub fn read_words<'a>(words: &'a [Text]) -> Result<Line<'a>, WordsNo>
     ensures line { IfOk result (λ line. IsLineWith words.now line.command line.dir.now line.conf) }
     ensures only { IfOk result (λ line. IsOnlyLine words.now line.command line.dir.now line.conf) }
@@ -77,12 +78,12 @@ pub fn read_words<'a>(words: &'a [Text]) -> Result<Line<'a>, WordsNo>
     let Some(command) = settings.command(verb) else {
         return Err(WordsNo::Usage);
     };
+    let conf = settings.conf();
+    if conf.limits.reserved >= conf.limits.max_connections {
+        return Err(WordsNo::Usage);
+    }
     match settings.folder(verb) {
-        Some(dir) => Ok(Line {
-            command,
-            dir,
-            conf: settings.conf(),
-        }),
+        Some(dir) => Ok(Line { command, dir, conf }),
         None => Err(WordsNo::Usage),
     }
 }

@@ -46,6 +46,7 @@ fixed_message fixes.StartingUp = fatal states.CannotConnectNow (codes "the datab
 fixed_message fixes.ShuttingDown = fatal states.CannotConnectNow (codes "the database system is shutting down")
 fixed_message fixes.InRecovery = fatal states.CannotConnectNow (codes "the database system is in recovery mode")
 fixed_message fixes.TooManyClients = fatal states.TooManyConnections (codes "sorry, too many clients already")
+fixed_message fixes.ReservedConnections = fatal states.TooManyConnections (codes "remaining connection slots are reserved for user postgres")
 fixed_message fixes.ProtocolOption = fatal states.FeatureNotSupported (codes "protocol options are not supported")
 fixed_message fixes.Replication = fatal states.FeatureNotSupported (codes "replication connections are not supported")
 fixed_message fixes.PacketLayout = fatal states.ProtocolViolation (codes "invalid startup packet layout: expected terminator as last byte")

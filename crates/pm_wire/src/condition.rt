@@ -41,6 +41,8 @@ pub enum Fixed {
     InRecovery,
     /// As many sessions are there as may be.
     TooManyClients,
+    /// As many ordinary sessions are there as may be: the places that are left are reserved for user `postgres`.
+    ReservedConnections,
     /// A startup packet asks for an option of the protocol.
     ProtocolOption,
     /// A startup packet asks for replication.

@@ -19,6 +19,8 @@ pub fn fixed(f: Fixed) -> &'static [u8]
             b"E\0\0\0\x43SFATAL\0VFATAL\0C57P03\0Mthe database system is in recovery mode\0\0",
         Fixed::TooManyClients =>
             b"E\0\0\0\x3bSFATAL\0VFATAL\0C53300\0Msorry, too many clients already\0\0",
+        Fixed::ReservedConnections =>
+            b"E\0\0\0\x55SFATAL\0VFATAL\0C53300\0Mremaining connection slots are reserved for user postgres\0\0",
         Fixed::ProtocolOption =>
             b"E\0\0\0\x3eSFATAL\0VFATAL\0C0A000\0Mprotocol options are not supported\0\0",
         Fixed::Replication =>

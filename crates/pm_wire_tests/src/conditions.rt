@@ -15,7 +15,7 @@ fn tell(out: &mut Bytes, condition: &Condition) -> Result<(), AllocError>
 }
 
 /// Conditions whose text is always the same, with the bytes that tell them.
-const FIXED: [(Fixed, &[u8]); 23] = [
+const FIXED: [(Fixed, &[u8]); 24] = [
     (
         Fixed::StartingUp,
         b"E\0\0\0\x3eSFATAL\0VFATAL\0C57P03\0Mthe database system is starting up\0\0",
@@ -31,6 +31,10 @@ const FIXED: [(Fixed, &[u8]); 23] = [
     (
         Fixed::TooManyClients,
         b"E\0\0\0\x3bSFATAL\0VFATAL\0C53300\0Msorry, too many clients already\0\0",
+    ),
+    (
+        Fixed::ReservedConnections,
+        b"E\0\0\0\x55SFATAL\0VFATAL\0C53300\0Mremaining connection slots are reserved for user postgres\0\0",
     ),
     (
         Fixed::ProtocolOption,

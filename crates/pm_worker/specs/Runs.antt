@@ -1,6 +1,6 @@
 -- The runs of the children of one worker.
 use Rattle.std.specs.{Prelude.{◌≡◌, ◌≢◌, ℕ, ◌+◌, ◌<◌, ◌≤◌, ◌^◌, ◌-◌, min, length, false, List, [], ◌∷◌, ◌++◌, map, Option, Some, None, is_some}, List.{flat_map, AllByRecursion}}
-use Rattle.pm_session.specs.{pm_outside.pm_disk.Cause.Rose, pm_admit.declared.Cac.Cac, pm_child_life.Life.Told, pm_session_exchange.{Answers.IsOvertakenBy, Sent.Turn}, Session.{Ending, status_of, between, IsSession, IsCaused, HeedsTold, IsAttachedBehind, HasCancelled}}
+use Rattle.pm_session.specs.{pm_outside.pm_disk.Cause.Rose, pm_admit.declared.Cac.Cac, pm_child_life.Life.Told, pm_session_exchange.{Answers.IsOvertakenBy, Sent.Turn}, Session.{Ending, status_of, between, IsSession, IsCaused, HeedsTold, IsAttachedBehind, HasCancelled, HasCome}}
 use Rattle.pm_board.specs.{pm_exit.declared.child.{Kind.Kind, Status.TheVariants.Code}, pm_keys.CancelKey.cancel_key, declared.views.{Cancel.Cancel, Heard.Heard, LatchLook.LatchLook, Offer.Offer, PastChild.PastChild, Work.TheVariants.{Idle, Inactive}}, Models.PostModel, Rule.no_signals, Slots.child_slots, Told.child_in}
 use Rattle.pm_board.specs.pm_exit.declared.child.Kind.TheVariants as kinds
 use Rattle.pm_aux.specs.{pm_query.{pm_record.declared.fault.RedoFault.RedoFault, declared.{book.BookEntry.BookEntry, store.StoreNo.{StoreNo, TheVariants.Redo}}, Calls.{newcomer, DiskFact, unread_for}}, Ends.IsMetBehind, Runs.IsRunOf}
@@ -89,6 +89,7 @@ module _ (stamp : Option ℕ) (seed : List ℕ) (limit : ℕ) (gives : ℕ → T
     pub behind : IsAttachedBehind ending generation attached
     pub cancels : HasCancelled ending.cause (traffic_in back) (Some (told_in run))
     pub overtaken : IsOvertakenBy run.met generation ending.exit
+    pub come : HasCome (traffic_in back) (Some (told_in run))
 
   -- what a child does that was given a mail which tells this
   abbrev pub Does : MailTold → Run → Type 0

@@ -17,22 +17,24 @@ use std::sync::Wait;
 fn work_off<R: Wait, C: Clock, L: Link + Drop, S: Store>(
     tools: &Tools<R, C>,
     post: Post<Mail<L>>,
-    store: &mut S,
-) -> Post<Mail<L>>
+    store: S,
+) -> (Post<Mail<L>>, S)
     requires { post.knows.work ≡ Idle }
-    ensures { HasClosed S.notes S.met S.learned (S.stamp store.old) tools.now.seed
-        tools.now.conf.authentication_ms (C.gives tools.now.clock) post result store.old store.new }
+    ensures { HasClosed S.notes S.met S.learned (S.stamp store) tools.now.seed
+        tools.now.conf.authentication_ms (C.gives tools.now.clock) post result.0 store result.1 }
 {
     let mut post = post;
+    let mut store = store;
     for _ in tools.rt.forever() {
         match post.start() {
             Started::Idle => post.wait(&tools.rt),
             Started::Job { pid, kind: _, job } => {
-                let (next, closed) = run_child(tools, post, pid, job, store);
+                let (next, worked_on, closed) = run_child(tools, post, pid, job, store);
                 post = next;
+                store = worked_on;
                 tools.clock.ring();
                 if closed {
-                    return post;
+                    return (post, store);
                 }
             }
         }
@@ -84,8 +86,6 @@ impl<R: Wait + Drop, C: Clock + Drop, L: Link + Drop, S: Store> Task for Child<R
 
     fn work(self) -> (Post<Mail<L>>, S) {
         let Child { tools, post, store } = self;
-        let mut store = store;
-        let post = work_off(&tools, post, &mut store);
-        (post, store)
+        work_off(&tools, post, store)
     }
 }

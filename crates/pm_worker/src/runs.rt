@@ -16,7 +16,7 @@ use pm_board_life::{Begun, PostLife};
 use pm_child_life::Life;
 use pm_exit::{Kind, Status};
 use pm_outside::{Clock, Link};
-use pm_query::Store;
+use pm_query::{Store, Work};
 use pm_session::{Admission, Done, Means, serve};
 use std::marker::Brand;
 use std::sync::Wait;
@@ -38,15 +38,16 @@ fn serve_one<R: Wait, C: Clock, L: Link + Drop, S: Store, K: Begun<MailTold>>(
     pid: u32,
     link: NewLink<L>,
     decision: Cac,
-    store: &mut S,
-) -> Post<Mail<L>>
+    store: S,
+) -> (Post<Mail<L>>, S)
     requires begun { K.begun ≡ Some (beginning post tools.now.seed) }
     requires started { HasBegun pid (told.Serve (link_told L.Link link.link) decision) post }
-    ensures { (one : HasRunOne S.notes S.met S.learned (S.stamp store.old) tools.now.seed
-        tools.now.conf.authentication_ms (C.gives tools.now.clock) post result store.old store.new)
+    ensures { (one : HasRunOne S.notes S.met S.learned (S.stamp store) tools.now.seed
+        tools.now.conf.authentication_ms (C.gives tools.now.clock) post result.0 store result.1)
         × (one.run.child.offer.given ≡ told.Serve (link_told L.Link link.link) decision) }
 {
     let life = PostLife::<Mail<L>, K>::new(post, pid, tools.seed);
+    let work = Work { life, store };
     let link = link.open();
     let key = key_of(&tools.seed, pid);
     let means = Means {
@@ -55,33 +56,33 @@ fn serve_one<R: Wait, C: Clock, L: Link + Drop, S: Store, K: Begun<MailTold>>(
         clock: &tools.clock,
     };
     let admission = Admission { decision, key };
-    let Done { status, link, life } = serve(&means, link, life, admission, &tools.conf, store);
+    let Done { status, link, work } = serve(&means, link, work, admission, &tools.conf);
+    let Work { life, store } = work;
     let mut post = life.into_post();
     post.exit(status, Mail::Served { link });
-    post
+    (post, store)
 }
 
 // Does what an auxiliary child of this kind is there for.
-fn tend<R: Wait, C: Clock, S: Store, F: Life>(
+fn tend<R: Wait, C: Clock, W: Store + Life>(
     tools: &Tools<R, C>,
     kind: Kind,
-    store: &mut S,
-    life: &mut F,
+    work: &mut W,
 ) -> AuxDone
     requires kind { is_auxiliary kind ≡ true }
-    requires free { (F.child life.old).attached ≡ None }
-    requires may { ¬ (IsTrue (F.child life.old).is_dead_end) }
-    requires untold { IfSome (F.told life.old) (λ told. told ≡ nothing_told) }
-    ensures run { (noted : List BookEntry) × S.notes noted store.old store.new
-        × IsRunOf kind (runner (S.stamp store.old) (F.child life.old))
-        (at_end result (F.told life.new) (F.child life.new)) noted }
-    ensures met { IsMetBehind (S.met store.new) result.fault }
-    ensures learned { kind ≡ Startup → LearnsWhy (S.learned store.new) result.fault }
+    requires free { (W.child work.old).attached ≡ None }
+    requires may { ¬ (IsTrue (W.child work.old).is_dead_end) }
+    requires untold { IfSome (W.told work.old) (λ told. told ≡ nothing_told) }
+    ensures run { (noted : List BookEntry) × W.notes noted work.old work.new
+        × IsRunOf kind (runner (W.stamp work.old) (W.child work.old))
+        (at_end result (W.told work.new) (W.child work.new)) noted }
+    ensures met { IsMetBehind (W.met work.new) result.fault }
+    ensures learned { kind ≡ Startup → LearnsWhy (W.learned work.new) result.fault }
 {
     match kind {
-        Kind::Startup => startup(store, life),
-        Kind::Checkpointer => checkpointer(&tools.rt, store, &tools.clock, life),
-        Kind::Writer => writer(&tools.rt, store, &tools.clock, life),
+        Kind::Startup => startup(work),
+        Kind::Checkpointer => checkpointer(&tools.rt, work, &tools.clock),
+        Kind::Writer => writer(&tools.rt, work, &tools.clock),
         Kind::Worker | Kind::Backend | Kind::DeadEnd => unreachable!(),
     }
 }
@@ -92,17 +93,19 @@ fn tend_one<R: Wait, C: Clock, L: Link + Drop, S: Store, K: Begun<MailTold>>(
     post: Post<Mail<L>>,
     pid: u32,
     kind: Kind,
-    store: &mut S,
-) -> Post<Mail<L>>
+    store: S,
+) -> (Post<Mail<L>>, S)
     requires begun { K.begun ≡ Some (beginning post tools.now.seed) }
     requires kind { is_auxiliary kind ≡ true }
     requires started { HasBegun pid (aux_mail kind) post }
-    ensures { (one : HasRunOne S.notes S.met S.learned (S.stamp store.old) tools.now.seed
-        tools.now.conf.authentication_ms (C.gives tools.now.clock) post result store.old store.new)
+    ensures { (one : HasRunOne S.notes S.met S.learned (S.stamp store) tools.now.seed
+        tools.now.conf.authentication_ms (C.gives tools.now.clock) post result.0 store result.1)
         × (one.run.child.offer.given ≡ aux_mail kind) }
 {
-    let mut life = PostLife::<Mail<L>, K>::new(post, pid, tools.seed);
-    let done = tend(tools, kind, store, &mut life);
+    let life = PostLife::<Mail<L>, K>::new(post, pid, tools.seed);
+    let mut work = Work { life, store };
+    let done = tend(tools, kind, &mut work);
+    let Work { life, store } = work;
     let mut post = life.into_post();
     post.exit(
         done.status,
@@ -111,7 +114,7 @@ fn tend_one<R: Wait, C: Clock, L: Link + Drop, S: Store, K: Begun<MailTold>>(
             kept: done.kept,
         },
     );
-    post
+    (post, store)
 }
 
 // Ends the child that closes the worker.
@@ -131,31 +134,51 @@ pub(crate) fn run_child<R: Wait, C: Clock, L: Link + Drop, S: Store>(
     post: Post<Mail<L>>,
     pid: u32,
     job: Mail<L>,
-    store: &mut S,
-) -> (Post<Mail<L>>, bool)
+    store: S,
+) -> (Post<Mail<L>>, S, bool)
     requires { HasBegun pid (mail_told L.Link job) post }
-    ensures { (one : HasRunOne S.notes S.met S.learned (S.stamp store.old) tools.now.seed
-        tools.now.conf.authentication_ms (C.gives tools.now.clock) post result.0 store.old store.new)
-        × (IsTrue result.1 ↔ (one.run.child.offer.given ≡ told.Close)) }
+    ensures { (one : HasRunOne S.notes S.met S.learned (S.stamp store) tools.now.seed
+        tools.now.conf.authentication_ms (C.gives tools.now.clock) post result.0 store result.1)
+        × (IsTrue result.2 ↔ (one.run.child.offer.given ≡ told.Close)) }
 {
     match job {
         Mail::Serve { link, decision } => {
-            let post = serve_one::<R, C, L, S, Brand>(tools, post, pid, link, decision, store);
-            (post, false)
+            let (post, store) = serve_one::<R, C, L, S, Brand>(
+                tools, post, pid, link, decision, store,
+            );
+            (post, store, false)
         }
         Mail::Startup => {
-            let post = tend_one::<R, C, L, S, Brand>(tools, post, pid, Kind::Startup, store);
-            (post, false)
+            let (post, store) = tend_one::<R, C, L, S, Brand>(
+                tools,
+                post,
+                pid,
+                Kind::Startup,
+                store,
+            );
+            (post, store, false)
         }
         Mail::Checkpointer => {
-            let post = tend_one::<R, C, L, S, Brand>(tools, post, pid, Kind::Checkpointer, store);
-            (post, false)
+            let (post, store) = tend_one::<R, C, L, S, Brand>(
+                tools,
+                post,
+                pid,
+                Kind::Checkpointer,
+                store,
+            );
+            (post, store, false)
         }
         Mail::Writer => {
-            let post = tend_one::<R, C, L, S, Brand>(tools, post, pid, Kind::Writer, store);
-            (post, false)
+            let (post, store) = tend_one::<R, C, L, S, Brand>(
+                tools,
+                post,
+                pid,
+                Kind::Writer,
+                store,
+            );
+            (post, store, false)
         }
-        Mail::Close => (close_one(post), true),
+        Mail::Close => (close_one(post), store, true),
         Mail::Served { .. } | Mail::Aux { .. } => unreachable!(),
     }
 }

@@ -4,7 +4,7 @@ ghost use Rattle.pm_board.specs.{pm_supervisor.declared.Reason.TheVariants.Crash
 ghost use Rattle.pm_board_tests.specs.GateChildren.{HasChildren, HasReaped, IsBetween, IsEmpty, shut_gate};
 
 use crate::gate::progress::{Progress, SESSIONS, WORKERS};
-use crate::gate::scene::{Ending, FIRST, Newcomer, Note, new_board, offer, task};
+use crate::gate::scene::{Ending, FIRST, Newcomer, Note, new_board, offer, task, up_to};
 use crate::gate::worker::{DEATH, Worker, new_workers, places, work};
 use pm_board::{Look, Released, Roster};
 use pm_child_life::GateNo;
@@ -236,7 +236,7 @@ fn run<R: Threads + Wait + Sync>(
     rt: &R,
     alloc: Global,
 ) -> Result<(Tally, (u32, Option<GateNo>)), AllocError> {
-    let (roster, mut posts) = new_board(alloc, SESSIONS)?;
+    let (roster, mut posts) = new_board(alloc, up_to(SESSIONS))?;
     let workers = new_workers(alloc, &mut posts)?;
     let progress = Progress::new();
     let ((tally, mut roster), workers) = thread::join(
@@ -250,7 +250,7 @@ fn run<R: Threads + Wait + Sync>(
 
 // The places at the gate of a new board.
 fn first_places(alloc: Global) -> Result<(u32, Option<GateNo>), AllocError> {
-    let (mut roster, mut posts) = new_board(alloc, SESSIONS)?;
+    let (mut roster, mut posts) = new_board(alloc, up_to(SESSIONS))?;
     let workers = new_workers(alloc, &mut posts)?;
     ready(&mut roster);
     Ok(places(&mut roster, workers, 0))

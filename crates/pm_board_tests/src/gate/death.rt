@@ -4,7 +4,7 @@ ghost use Rattle.pm_board.specs.{pm_exit.declared.child.Kind.TheVariants.{Worker
 ghost use Rattle.pm_board_tests.specs.GateChildren.{HasChildren, IsEmpty, IsUntouched, RunsKind, shut_gate, open_gate};
 
 use crate::gate::scene::{
-    Ending, FIRST, Newcomer, Note, begin, new_board, reap, take_post, task, try_once,
+    Ending, FIRST, Newcomer, Note, begin, new_board, reap, take_post, task, try_once, up_to,
 };
 use pm_board::{Post, Released, Roster};
 use pm_child_life::GateNo;
@@ -102,7 +102,7 @@ fn leave_both(
     ensures gate { IfSome result (λ _. roster.new.knows.generation ≡ 1) }
     ensures idle { IfSome result (λ _. leaving.new.knows.work ≡ Idle) }
 {
-    let Ok(attached) = attach(dying) else {
+    let Ok(attached) = attach(dying, true) else {
         return None;
     };
     let beside_it = try_once(leaving);
@@ -154,7 +154,7 @@ fn tell(roster: &mut Roster<Note>, dying: &mut Post<Note>, other: &mut Post<Note
 }
 
 fn story_of_a_death(alloc: Global) -> Result<Option<Story>, AllocError> {
-    let (mut roster, mut posts) = new_board(alloc, 1)?;
+    let (mut roster, mut posts) = new_board(alloc, up_to(1))?;
     let Some(mut dying) = take_post(&mut posts, FIRST) else {
         return Ok(None);
     };

@@ -98,6 +98,7 @@ impl Progress {
                     && self.opening.load(Ordering::SeqCst) >= before.generation
                     && !before.shut
             }
+            GateNo::Reserved { .. } => false,
         }
     }
 }

@@ -3,7 +3,7 @@ ghost use Rattle.std.specs.Prelude.{◌≡◌, ◌≤◌, IfOk, IfSome, IsTrue};
 ghost use Rattle.pm_board.specs.{Gate.gate_of, Places.{MayAssign, IsAssigned}, Models.MayAttach, declared.views.Work.TheVariants.Idle, Posts.AllIdle};
 ghost use Rattle.pm_board_tests.specs.GateChildren.{HasBegun, HasReaped, IsUntouched, RunsKind, shut_gate};
 
-use pm_board::{Board, Letter, Look, Post, Posts, Released, Roster, Started};
+use pm_board::{Board, Letter, Look, Post, Posts, Released, Roster, SessionLimit, Started};
 use pm_child_life::GateNo;
 use pm_exit::Kind;
 use pm_gate::{attach, detach};
@@ -82,12 +82,19 @@ pub struct Newcomer {
     pub kind: Kind,
 }
 
+/// So many sessions may be attached, and no place is reserved.
+pub fn up_to(most: u32) -> SessionLimit
+    ensures { result.most ≡ most }
+{
+    SessionLimit { most, reserved: 0 }
+}
+
 /// A new board.
 pub fn new_board(
     alloc: Global,
-    session_limit: u32,
+    session_limit: SessionLimit,
 ) -> Result<(Roster<Note>, Posts<Note>), AllocError>
-    requires { session_limit ≤ 200 }
+    requires { session_limit.most ≤ 200 }
     ensures roster { IfOk result (λ made. IsUntouched made.0.knows
         × (gate_of made.0.knows ≡ shut_gate 1)) }
     ensures posts { IfOk result (λ made. AllIdle made.1.left.items) }
@@ -134,7 +141,7 @@ pub fn try_once(post: &mut Post<Note>) -> Result<u32, GateNo>
     requires { MayAttach post.old.knows.work }
     ensures { post.new.knows.work ≡ post.old.knows.work }
 {
-    let attached = attach(post)?;
+    let attached = attach(post, true)?;
     let generation = attached.generation;
     detach(post, attached);
     Ok(generation)

@@ -1,5 +1,5 @@
 //! A worker, whose children go to the gate until their end.
-ghost use Rattle.std.specs.Prelude.{◌≡◌, ◌≤◌, IfSome, IfNone, IsTrue};
+ghost use Rattle.std.specs.Prelude.{◌≡◌, ◌+◌, ◌<◌, ◌≤◌, IfSome, IfNone, IsTrue};
 ghost use Rattle.pm_board.specs.{declared.views.Work.TheVariants.Idle, Posts.AllIdle};
 ghost use Rattle.pm_board_tests.specs.GateChildren.{HasChildren, IsAttachedSession, RunsSession, ServesSession};
 
@@ -93,7 +93,7 @@ fn go_once(post: &mut Post<Note>, mut note: Note, progress: &Progress) -> Option
     ensures ends { IfNone result (post.new.knows.work ≡ Idle) }
 {
     let before = progress.before(note.generation);
-    match attach(post) {
+    match attach(post, true) {
         Ok(attached) => {
             note.judge(progress.may_let_in(before, attached.generation));
             stay(post, attached, note, progress)
@@ -134,6 +134,33 @@ fn stay(
     Some(note)
 }
 
+/// A child for this place comes to the gate, an ordinary one or not. What it is told, where it starts. It stays where it is let in.
+pub fn come(
+    roster: &mut Roster<Note>,
+    worker: Worker,
+    place: u32,
+    last_pid: u32,
+    is_ordinary: bool,
+) -> Option<Result<u32, GateNo>>
+    requires board { HasChildren 3 (3 + place) (last_pid + place) roster.old.knows }
+    requires few { (place < 8) × (last_pid ≤ 8008) }
+    ensures { HasChildren 3 (3 + (place + 1)) (last_pid + (place + 1)) roster.new.knows }
+{
+    let mut post = worker.post;
+    let child = Newcomer {
+        slot: FIRST + place,
+        pid: last_pid + place + 1,
+        kind: Kind::Worker,
+    };
+    if !begin(roster, &mut post, child, task(1, Ending::AtNotice)) {
+        return None;
+    }
+    match attach(&mut post, is_ordinary) {
+        Ok(attached) => Some(Ok(attached.generation)),
+        Err(refusal) => Some(Err(refusal)),
+    }
+}
+
 /// How many children are let in at an open gate, one after the other, and what the next one is told.
 pub fn places(
     roster: &mut Roster<Note>,
@@ -148,19 +175,11 @@ pub fn places(
         if place >= WORKERS {
             break;
         }
-        let mut post = worker.post;
-        let child = Newcomer {
-            slot: FIRST + place,
-            pid: last_pid + place + 1,
-            kind: Kind::Worker,
-        };
-        if !begin(roster, &mut post, child, task(1, Ending::AtNotice)) {
-            break;
+        match come(roster, worker, place, last_pid, true) {
+            None => break,
+            Some(Err(refusal)) => return (place, Some(refusal)),
+            Some(Ok(_)) => place += 1,
         }
-        if let Err(refusal) = attach(&mut post) {
-            return (place, Some(refusal));
-        }
-        place += 1;
     }
     (place, None)
 }

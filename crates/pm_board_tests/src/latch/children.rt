@@ -4,12 +4,18 @@ ghost use Rattle.pm_board.specs.declared.views.Work.TheVariants.{Idle};
 ghost use Rattle.pm_board_tests.specs.LatchChildren.{CanBegin, HasBegun, IsBusy, HasStayed, HasFinished, IsRunning, IsNew};
 
 use crate::notes::Note;
-use pm_board::{Board, Look, Post, Roster, Started};
+use pm_board::{Board, Look, Post, Roster, SessionLimit, Started};
 use pm_exit::{Kind, Status};
 use std::alloc::{AllocError, Global};
 
 /// Of the tests' boards. Slots 3 and 4 serve sessions.
 pub const SLOTS: u32 = 9;
+
+/// Two sessions may be attached.
+const LIMIT: SessionLimit = SessionLimit {
+    most: 2,
+    reserved: 0,
+};
 
 /// A new board, with the posts of the slots 3 and 4.
 #[derive(Drop)]
@@ -23,7 +29,7 @@ pub fn make(alloc: Global) -> Result<Made, AllocError>
     ensures { IfOk result (λ made. IsNew made.roster.knows × (made.third.knows.work ≡ Idle)
         × (made.fourth.knows.work ≡ Idle)) }
 {
-    let (roster, mut posts) = Board::new::<Note>(alloc, SLOTS, 2)?;
+    let (roster, mut posts) = Board::new::<Note>(alloc, SLOTS, LIMIT)?;
     for _ in 0..3u32 {
         posts.take();
     }

@@ -9,7 +9,7 @@ use crate::worker::crew::{
 };
 use crate::worker::tally::Tally;
 use pm_admit::Cac;
-use pm_board::{Board, Posts, Roster};
+use pm_board::{Board, Posts, Roster, SessionLimit};
 use pm_disk::MemDisk;
 use pm_exit::Kind;
 use pm_latch::Signal;
@@ -194,7 +194,11 @@ fn new_board(alloc: Global) -> Result<(Roster<Job>, Posts<Job>), AllocError>
     ensures roster { IfOk result (λ made. IsFresh made.0.knows 0 × (made.0.knows.is_open ≡ false)) }
     ensures posts { IfOk result (λ made. AllIdle made.1.left.items) }
 {
-    Board::new::<Job>(alloc, SLOTS, SESSIONS)
+    let limit = SessionLimit {
+        most: SESSIONS,
+        reserved: 0,
+    };
+    Board::new::<Job>(alloc, SLOTS, limit)
 }
 
 // The numbers of the links add up to 201 * 202 / 2.

@@ -6,8 +6,8 @@ use Rattle.pm_aux.proofs.checkpoints.checkpoint_on.Given as goal
 
 abbrev pub invariant-loop : goal.invariant-loop
 invariant-loop g l = record {
-  notes : (passing : List BookEntry) × g.S.Store.notes passing l.fn.store l.store × All (IsPassing (g.S.Store.view l.fn.pass).pid) passing;
-  admits : g.S.Store.admits l.store l.pass;
-  view : g.S.Store.view l.pass ≡ g.S.Store.view l.fn.pass;
-  listens : Listens 0 (attention (g.F.Life.told l.fn.life) (g.F.Life.child l.fn.life) l.fn.standing) (attention (g.F.Life.told l.life) (g.F.Life.child l.life) l.standing);
+  notes : (passing : List BookEntry) × g.W.Store.notes passing l.fn.work l.work × All (IsPassing (g.W.Store.view l.fn.pass).pid) passing;
+  admits : g.W.Store.admits l.work l.pass;
+  view : g.W.Store.view l.pass ≡ g.W.Store.view l.fn.pass;
+  listens : Listens 0 (attention (g.W.Seat.told l.fn.work) (g.W.Seat.child l.fn.work) l.fn.standing) (attention (g.W.Seat.told l.work) (g.W.Seat.child l.work) l.standing);
 }

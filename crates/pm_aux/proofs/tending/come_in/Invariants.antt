@@ -5,6 +5,6 @@ use Rattle.pm_aux.proofs.tending.come_in.Given as goal
 
 abbrev pub invariant-loop : goal.invariant-loop
 invariant-loop g l = record {
-  notes : g.S.Store.notes [] l.fn.store l.store;
-  listens : Listens 0 (attention (g.F.Life.told l.fn.life) (g.F.Life.child l.fn.life) l.fn.standing) (attention (g.F.Life.told l.life) (g.F.Life.child l.life) l.standing);
+  notes : g.W.Store.notes [] l.fn.work l.work;
+  listens : Listens 0 (attention (g.W.Seat.told l.fn.work) (g.W.Seat.child l.fn.work) l.fn.standing) (attention (g.W.Seat.told l.work) (g.W.Seat.child l.work) l.standing);
 }

@@ -6,4 +6,4 @@ pub loop-preserved : goal.loop-preserved
 loop-preserved c = idle_posts.taken_idle _ _ _ c.take.ensures c.loop.invariant
 
 pub returns : goal.returns
-returns c = (drives.is_free _ c.args.slots 1 c.args.slots c.requires.0 c.in_ok-roster.ensures.roster, idle_posts.first_idle _ _ _ c.in-Some.ensures c.loop.invariant)
+returns c = (drives.is_free _ c.args.slots _ c.args.slots c.requires.0 c.in_ok-roster.ensures.roster, idle_posts.first_idle _ _ _ c.in-Some.ensures c.loop.invariant)

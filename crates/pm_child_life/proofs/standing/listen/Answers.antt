@@ -5,7 +5,7 @@ pub returns-clause-hears : goal.returns-clause-hears
 returns-clause-hears g c = rw c.with.ensures (listened c.signals.result _ _ _ _ c.args.standing.now c.signals.ensures.told c.signals.ensures.child)
 
 pub returns-clause-attentive : goal.returns-clause-attentive
-returns-clause-attentive g c = rw (c.with.ensures, c.signals.ensures.told) (attentive_now c.signals.result (g.F.Life.told c.args.life.now) (g.F.Life.child c.args.life.now) (g.F.Life.child c.signals.new.self) c.args.standing.now c.requires)
+returns-clause-attentive g c = rw (c.with.ensures, c.signals.ensures.told) (attentive_now c.signals.result (g.F.Seat.told c.args.life.now) (g.F.Seat.child c.args.life.now) (g.F.Seat.child c.signals.new.self) c.args.standing.now c.requires)
 
 pub returns-clause-cancel : goal.returns-clause-cancel
-returns-clause-cancel g c = rw c.with.ensures (cancel_stands c.signals.result _ _ (g.F.Life.child c.args.life.now) (g.F.Life.child c.signals.new.self) c.args.standing.now c.signals.ensures.told)
+returns-clause-cancel g c = rw c.with.ensures (cancel_stands c.signals.result _ _ (g.F.Seat.child c.args.life.now) (g.F.Seat.child c.signals.new.self) c.args.standing.now c.signals.ensures.told)

@@ -5,8 +5,8 @@ use Rattle.pm_once_children.{specs.{Calm.EndThemselves, AuxiliaryRuns.nothing_he
 use Rattle.pm_once.{specs.{View.{View, view_of}, Knows.Knows}, proofs.{Whole.{HasBegun, begins_idle, begins_running, nothing_asked, nothing_journal, logged_as, nothing_logged, whole_asked, whole_book_is, whole_end, whole_journal, whole_log, whole_once, whole_rose, whole_runs, whole_sessions}, Known.known_at, Serving.nothing_served}}
 use Rattle.pm_once.proofs.run_once.once.Goals as goal
 
-pub run-end-requires : goal.run-end-requires
-run-end-requires g c =
+pub run-server-requires : goal.run-server-requires
+run-server-requires g c =
     let limits = c.args.conf.now.limits in
     let v : View = record { work = at_work c.new-supervision.result; store = moment c.in-Ok.store; log = log_view_of c.new-log.result; lost = c.new-2.result.items; auxiliaries = c.none.result; outcome = None; listens = true } in
     let begun : HasBegun limits v = record {
@@ -56,7 +56,7 @@ returns-clause-run g c =
     let disk = c.args.outside.disk in
     let store = c.in-Ok.store in
     let v : View = record { work = at_work c.new-supervision.result; store = moment store; log = log_view_of c.new-log.result; lost = c.new-2.result.items; auxiliaries = c.none.result; outcome = None; listens = true } in
-    let now : View = view_of c.run-end.new.self in
+    let now : View = view_of c.run-server.result.0 in
     let begun : HasBegun limits v = record {
       standing = c.new-supervision.ensures.standing;
       told = subst (λ (t : Option (List PmEvent)). IfSome t (λ es. es ≡ [])) (sym c.new-supervision.ensures.told) c.requires.empty;
@@ -69,8 +69,8 @@ returns-clause-run g c =
       generation = c.in-Ok.ensures.generation;
       inside = c.in-Ok.ensures.empty;
     } in
-    let r = c.run-end.ensures in
-    let end = c.run-end.result in
+    let r = c.run-server.ensures in
+    let end = c.run-server.result.1 in
     let steps = r.0 in
     let laws = c.laws.ensures in
     let before : OutsideView = outside_view c.args.outside in
@@ -107,7 +107,7 @@ returns-clause-run g c =
           (whole_log laws.steps laws.work limits gives end r.1 r.2 steps v now (log_view_of c.say_end-2.new.log) begun r.3 c.say_end-2.ensures);
       faults = rw c.into_parts-disk.ensures.0 (r.3.goes.store.counts (g.D.Disk.faults disk) counted).each;
       story = λ empty. rw (c.into_parts-disk.ensures.0, c.into_parts-disk.ensures.1)
-          (whole_story end before.disk v.store (book_of steps) now.store before.book empty c.in-Ok.ensures.notes (c.in-Ok.ensures.waits empty) its_run known_end c.run-end.new.self.store.rests c.keeps_its_run.ensures.run);
+          (whole_story end before.disk v.store (book_of steps) now.store before.book empty c.in-Ok.ensures.notes (c.in-Ok.ensures.waits empty) its_run known_end c.run-server.result.0.store.rests c.keeps_its_run.ensures.run);
       cause = rw (c.into_parts-disk.ensures.0, c.into_parts-disk.ensures.1) caused;
       well = rw c.into_parts-disk.ensures.0
           (ends_well end (book_of steps) (store_view before) (store_at now.store) caused (r.3.goes.store.counts (g.D.Disk.faults disk) counted).each

@@ -1,5 +1,5 @@
 use Rattle.std.{proofs.{Common.{rules, ◌≡◌, ◌∙◌, ◌+◌, ◌∷◌, [], ℕ, List, ◌≤◌, ap, arith, length, length-append, subst, sym}, lemmas.List.Elements.All-pop}, specs.{Prelude.{IfSome, Option}, Option.option_to_list}}
-use Rattle.pm_serve_pool.{specs.{Plan.slots_of, Works.{EachFrom, IsWorkOf}}, proofs.{Filling.{IsNewToken, IsPostOf, all_but_last, filled_more, none_yet, popped_last, posts_first, tokens_first}, Lists.front_of_all}}
+use Rattle.pm_serve_pool.{specs.{Plan.{sessions_of, slots_of}, Works.{EachFrom, IsWorkOf}}, proofs.{Filling.{IsNewToken, IsPostOf, all_but_last, filled_more, none_yet, popped_last, posts_first, tokens_first}, Lists.front_of_all}}
 use Rattle.pm_serve_pool.proofs.making.fill.Goals as goal
 
 pub loop-token-init : goal.loop-token-init
@@ -9,7 +9,7 @@ loop-token-init g c =
     let none : length c.args.stock.works.items ≡ 0 = ap length c.requires.room.0 in
     record {
       tokens = tokens_first (slots_of c.args.terms.now.plan) c.args.shared.now c.args.tokens c.requires.tokens;
-      posts = posts_first (slots_of c.args.terms.now.plan) c.args.terms.now.plan.max_connections c.args.stock.roster.table c.args.stock.posts.items c.requires.posts;
+      posts = posts_first (slots_of c.args.terms.now.plan) (sessions_of c.args.terms.now.plan.limits) c.args.stock.roster.table c.args.stock.posts.items c.requires.posts;
       count_posts = c.args.stock.posts.ok.0 ∙ posts ∙ sym tokens;
       count_clocks = c.requires.clocks.0 ∙ sym tokens;
       count_callers = c.requires.callers ∙ sym tokens;
@@ -26,7 +26,7 @@ loop-token-preserved g c =
     let rest = c.take.new.self in
     let tokens = all_but_last (IsNewToken c.args.shared.now.table c.args.shared.now.first) rest c.loop-token.tokens c.in-Some.token c.in-Some.ensures inv.tokens in
     let posts_are = popped_last c.pop.result c.unwrap-post.result c.loop-token.posts.items c.pop.new.self.items c.pop.ensures.items c.unwrap-post.ensures in
-    let posts = all_but_last (IsPostOf c.args.stock.roster.table c.args.terms.now.plan.max_connections) c.pop.new.self.items c.loop-token.posts.items c.unwrap-post.result posts_are inv.posts in
+    let posts = all_but_last (IsPostOf c.args.stock.roster.table (sessions_of c.args.terms.now.plan.limits)) c.pop.new.self.items c.loop-token.posts.items c.unwrap-post.result posts_are inv.posts in
     let gives = All-pop (λ clock. (moment : ℕ) → g.C.Clock.gives clock moment → g.C.Clock.gives c.args.terms.now.clock.value moment) c.loop-token.clocks.items c.pop-in-Some.new.self.items c.pop-in-Some.result c.pop-in-Some.ensures.items inv.gives in
     let its = subst (λ (t : Option _). IfSome t (λ clock. (moment : ℕ) → g.C.Clock.gives clock moment → g.C.Clock.gives c.args.terms.now.clock.value moment)) c.unwrap.ensures gives.1 in
     let longer : length c.loop-token.tokens ≡ length rest + 1 = ap length c.in-Some.ensures ∙ length-append rest (c.in-Some.token ∷ []) in
@@ -46,7 +46,7 @@ loop-token-preserved g c =
     let count : length c.loop-token.works.items + length c.loop-token.tokens ≡ slots_of c.args.terms.now.plan = inv.count in
     record {
       tokens = front_of_all (IsNewToken c.args.shared.now.table c.args.shared.now.first) 0 rest (c.in-Some.token ∷ []) tokens;
-      posts = front_of_all (IsPostOf c.args.stock.roster.table c.args.terms.now.plan.max_connections) 0 c.pop.new.self.items (c.unwrap-post.result ∷ []) posts;
+      posts = front_of_all (IsPostOf c.args.stock.roster.table (sessions_of c.args.terms.now.plan.limits)) 0 c.pop.new.self.items (c.unwrap-post.result ∷ []) posts;
       count_posts = fewer_posts;
       count_clocks = fewer_clocks;
       count_callers = fewer_callers;

@@ -1,12 +1,12 @@
 use Rattle.std.proofs.Common.{ℕ, ◌≡◌, ◌≤◌, ◌+◌, All, length, vec_len}
-use Rattle.pm_serve_pool.{specs.{Plan.slots_of, Works.{EachFrom, IsWorkOf}}, proofs.Filling.{IsNewToken, IsPostOf}}
+use Rattle.pm_serve_pool.{specs.{Plan.{sessions_of, slots_of}, Works.{EachFrom, IsWorkOf}}, proofs.Filling.{IsNewToken, IsPostOf}}
 use Rattle.pm_serve_pool.proofs.making.fill.Given as goal
 
 abbrev pub invariant-loop-token : goal.invariant-loop-token
 invariant-loop-token g l =
     record {
       tokens : EachFrom (IsNewToken l.shared.table l.shared.first) 0 l.tokens;
-      posts : EachFrom (IsPostOf l.fn.stock.roster.table l.terms.plan.max_connections) 0 l.posts.items;
+      posts : EachFrom (IsPostOf l.fn.stock.roster.table (sessions_of l.terms.plan.limits)) 0 l.posts.items;
       count_posts : vec_len l.posts ≡ length l.tokens;
       count_clocks : vec_len l.clocks ≡ length l.tokens;
       count_callers : vec_len l.callers ≡ length l.tokens;

@@ -1,7 +1,7 @@
 use Rattle.std.proofs.{Common.{◌≡◌, ◌∙◌, ◌+◌, ℕ, List, ap, arith, length, map, subst, sym}, lemmas.{Bool.Decides.nat_tests, List.length-replicate}}
 use Rattle.atomic_table.specs.Seated.{TableId}
 use Rattle.pm_worker.specs.{pm_board.declared.views.RosterView.RosterView, pm_spawn.Works.work_of, declared.mail.MailTold.MailTold}
-use Rattle.pm_serve_pool.{specs.{Closing.IsShut, Plan.{files_of, manner_of, slots_of}, Works.{EachFrom, IsUnusedWork, IsWorkOf}}, proofs.{Closed.shut_new, Lists.front_of_all, Returning.unused_works, Starting.{all_idle, idle_closed, left_unused, started_few}}}
+use Rattle.pm_serve_pool.{specs.{Closing.IsShut, Plan.{files_of, manner_of, sessions_of, slots_of}, Works.{EachFrom, IsUnusedWork, IsWorkOf}}, proofs.{Closed.shut_new, Lists.front_of_all, Returning.unused_works, Starting.{all_idle, idle_closed, left_unused, started_few}}}
 use Rattle.pm_serve_pool.proofs.making.start.Goals as goal
 
 pub start_all-requires-after_bounds : goal.start_all-requires-after_bounds
@@ -29,7 +29,7 @@ returns-then-is_empty-clause-pool g c =
 
 pub close_all-requires-clause-shut : goal.close_all-requires-clause-shut
 close_all-requires-clause-shut g c =
-    subst (λ (d : RosterView MailTold). IsShut 0 d) (sym c.requires.roster) (shut_new (slots_of c.args.terms.plan) c.args.terms.plan.max_connections (slots_of c.args.terms.plan))
+    subst (λ (d : RosterView MailTold). IsShut 0 d) (sym c.requires.roster) (shut_new (slots_of c.args.terms.plan) (sessions_of c.args.terms.plan.limits) (slots_of c.args.terms.plan))
 
 pub close_all-requires-clause-slots : goal.close_all-requires-clause-slots
 close_all-requires-clause-slots g c =
@@ -54,7 +54,7 @@ give_up-requires-2-clause-tokens g c =
 
 pub give_up-requires-2-clause-idle : goal.give_up-requires-2-clause-idle
 give_up-requires-2-clause-idle g c =
-    idle_closed (manner_of g.C.Clock.gives c.args.terms (files_of g.D.Disk c.args.shared.first)) (length c.in-Ok.workers.items) (slots_of c.args.terms.plan) (slots_of c.args.terms.plan) c.args.terms.plan.max_connections (slots_of c.args.terms.plan)
+    idle_closed (manner_of g.C.Clock.gives c.args.terms (files_of g.D.Disk c.args.shared.first)) (length c.in-Ok.workers.items) (slots_of c.args.terms.plan) (slots_of c.args.terms.plan) (sessions_of c.args.terms.plan.limits) (slots_of c.args.terms.plan)
     c.args.roster.knows c.close_all.new.roster.knows c.requires.shared.0 c.args.shared c.close_all.new.shared c.requires.roster c.requires.shared.1 c.close_all.ensures.closed
 
 pub returns-clause-parts : goal.returns-clause-parts

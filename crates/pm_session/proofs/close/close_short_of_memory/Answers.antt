@@ -11,6 +11,7 @@ returns g c =
     let words : c.fixed.result.now ≡ bytes_of (last_of c.args.decision Outside ends) =
     c.fixed.ensures ∙ sym (bytes_of-one (fixed_message FatalMemory)) ∙ ap (λ (cause : Cause). bytes_of (last_of c.args.decision Outside cause)) (sym is) in
     record {
-      closes = closed c.args.decision Outside ShortOfMemory ends c.exit_by.result c.fixed.result.now _ _ _ _ _ c.last_cause-cause.ensures.attentive c.last_cause-cause.ensures.hears c.last_cause-cause.ensures.last words (rw c.last_cause-cause.ensures.link at c.say_last.ensures)
+      closes = closed c.args.decision Outside ShortOfMemory ends c.exit_by.result c.fixed.result.now _ _ _ _ _ c.last_cause-cause.ensures.attentive c.last_cause-cause.ensures.hears c.last_cause-cause.ensures.last words (rw c.last_cause-cause.ensures.link at c.say_last.ensures.says)
           c.exit_by.ensures;
+      rests = g.met.W.Life.rests_on _ _ _ c.last_cause-cause.ensures.rests c.say_last.ensures.rests;
     }

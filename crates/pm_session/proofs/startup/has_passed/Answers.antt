@@ -1,4 +1,4 @@
-use Rattle.std.proofs.{Common.{◌≡◌, ◌≤◌, arith}, lemmas.Grind.common_steps}
+use Rattle.std.proofs.{Common.{arith}, lemmas.Grind.common_steps}
 use Rattle.pm_session.proofs.Entries.{apart_by}
 use Rattle.pm_session.proofs.startup.has_passed.Goals as goal
 

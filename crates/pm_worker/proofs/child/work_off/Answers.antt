@@ -13,8 +13,8 @@ loop-init g c =
           record {
             runs = [];
             worked =
-                nothing g.S.Store.notes g.S.Store.met g.S.Store.learned (g.S.Store.stamp c.args.store.now) tools.seed tools.conf.authentication_ms (g.C.Clock.gives tools.clock) c.args.post c.args.store.now c.requires
-                (g.met.S.Store.at_rest c.args.store.now);
+                nothing g.S.Store.notes g.S.Store.met g.S.Store.learned (g.S.Store.stamp c.args.store) tools.seed tools.conf.authentication_ms (g.C.Clock.gives tools.clock) c.args.post c.args.store c.requires
+                (g.met.S.Store.at_rest c.args.store);
             none = tt;
           };
       next = tt;
@@ -42,11 +42,11 @@ returns-then-closed g c =
     let gives = g.C.Clock.gives tools.clock in
     let limit = tools.conf.authentication_ms in
     let run = r.0.run in
-    let one : HasRunOne g.S.Store.notes g.S.Store.met g.S.Store.learned (g.S.Store.stamp c.args.store.now) tools.seed limit gives c.start.new.self c.run_child-next.result.0 c.loop.store
-    c.run_child-next.new.store =
+    let one : HasRunOne g.S.Store.notes g.S.Store.met g.S.Store.learned (g.S.Store.stamp c.args.store) tools.seed limit gives c.start.new.self c.run_child-next.result.0 c.loop.store
+    c.run_child-next.result.1 =
     record {
       run = run;
-      is = subst (λ stamp. IsRun stamp tools.seed limit gives run) (g.met.S.Store.stays c.args.store.now c.loop.store (noted_by w.runs) w.worked.store) r.0.is;
+      is = subst (λ stamp. IsRun stamp tools.seed limit gives run) (g.met.S.Store.stays c.args.store c.loop.store (noted_by w.runs) w.worked.store) r.0.is;
       post = r.0.post;
       store = r.0.store;
       known = r.0.known;
@@ -64,8 +64,8 @@ returns-then-closed g c =
       front = w.runs;
       last = run;
       worked =
-          ran g.S.Store.notes g.S.Store.met g.S.Store.learned (g.S.Store.stamp c.args.store.now) tools.seed limit gives g.met.S.Store.in_turn g.met.S.Store.rises g.met.S.Store.keeps w.runs
-          c.args.post c.loop.post c.start.new.self c.run_child-next.result.0 c.args.store.now c.loop.store c.run_child-next.new.store w.worked looked_ one;
+          ran g.S.Store.notes g.S.Store.met g.S.Store.learned (g.S.Store.stamp c.args.store) tools.seed limit gives g.met.S.Store.in_turn g.met.S.Store.rises g.met.S.Store.keeps w.runs
+          c.args.post c.loop.post c.start.new.self c.run_child-next.result.0 c.args.store c.loop.store c.run_child-next.result.1 w.worked looked_ one;
       earlier = w.none;
       closes = r.1.0 c.if-closed.true;
     }
@@ -79,11 +79,11 @@ loop-preserved g c =
     let gives = g.C.Clock.gives tools.clock in
     let limit = tools.conf.authentication_ms in
     let run = r.0.run in
-    let one : HasRunOne g.S.Store.notes g.S.Store.met g.S.Store.learned (g.S.Store.stamp c.args.store.now) tools.seed limit gives c.start.new.self c.run_child-next.result.0 c.loop.store
-    c.run_child-next.new.store =
+    let one : HasRunOne g.S.Store.notes g.S.Store.met g.S.Store.learned (g.S.Store.stamp c.args.store) tools.seed limit gives c.start.new.self c.run_child-next.result.0 c.loop.store
+    c.run_child-next.result.1 =
     record {
       run = run;
-      is = subst (λ stamp. IsRun stamp tools.seed limit gives run) (g.met.S.Store.stays c.args.store.now c.loop.store (noted_by w.runs) w.worked.store) r.0.is;
+      is = subst (λ stamp. IsRun stamp tools.seed limit gives run) (g.met.S.Store.stays c.args.store c.loop.store (noted_by w.runs) w.worked.store) r.0.is;
       post = r.0.post;
       store = r.0.store;
       known = r.0.known;
@@ -103,8 +103,8 @@ loop-preserved g c =
           record {
             runs = w.runs ++ run ∷ [];
             worked =
-                ran g.S.Store.notes g.S.Store.met g.S.Store.learned (g.S.Store.stamp c.args.store.now) tools.seed limit gives g.met.S.Store.in_turn g.met.S.Store.rises g.met.S.Store.keeps
-                w.runs c.args.post c.loop.post c.start.new.self c.run_child-next.result.0 c.args.store.now c.loop.store c.run_child-next.new.store w.worked looked_ one;
+                ran g.S.Store.notes g.S.Store.met g.S.Store.learned (g.S.Store.stamp c.args.store) tools.seed limit gives g.met.S.Store.in_turn g.met.S.Store.rises g.met.S.Store.keeps
+                w.runs c.args.post c.loop.post c.start.new.self c.run_child-next.result.0 c.args.store c.loop.store c.run_child-next.result.1 w.worked looked_ one;
             none = each_more (λ (it : Run). it.child.offer.given ≢ mail.Close) w.runs run w.none goes_on;
           };
       next = tt;

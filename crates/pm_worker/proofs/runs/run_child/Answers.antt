@@ -30,7 +30,7 @@ pub returns-in-Close : goal.returns-in-Close
 returns-in-Close g c =
     let begun = subst (λ j. HasBegun c.args.pid (mail_told g.L.Link j) c.args.post) c.in-Close.is c.requires in
     let tools = c.args.tools.now in
-    let store = c.args.store.now in
+    let store = c.args.store in
     let met = g.S.Store.met store in (
       record {
         run = close_run (child_slots c.args.post.table.slots) met begun.offer;

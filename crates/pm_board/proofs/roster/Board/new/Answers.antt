@@ -4,8 +4,8 @@ use Rattle.pm_board.proofs.Steps as steps
 use Rattle.pm_board.proofs.roster.Board.new.Goals as goal
 
 pub vacant-requires : goal.vacant-requires
-vacant-requires g c = steps.begins_as g.J.Letter c.from-2.result c.args.slots c.from.result c.from-2.result c.as_slice.result.now (search rules) (search rules) refl c.requires.1
-    (let e : c.from-2.result ≡ c.args.session_limit = search rules in let l : c.args.session_limit ≤ 200 = c.requires.2 in omega arith)
+vacant-requires g c = steps.begins_as g.J.Letter c.args.session_limit c.args.slots c.from.result c.args.session_limit c.as_slice.result.now (search rules) (search rules) refl c.requires.1
+    c.requires.2
 
 pub invariant_of-roster : goal.invariant_of-roster
 invariant_of-roster g c =

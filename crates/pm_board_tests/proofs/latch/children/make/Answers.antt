@@ -7,7 +7,7 @@ loop-preserved c = idle_posts.taken_idle _ _ _ c.take.ensures c.loop.invariant
 
 pub returns : goal.returns
 returns c = (
-  boards.is_new _ 2 9 c.in_ok-roster.ensures.roster,
+  boards.is_new _ _ 9 c.in_ok-roster.ensures.roster,
   idle_posts.first_idle _ _ _ c.in-Some-Some.ensures c.loop.invariant,
   idle_posts.first_idle _ _ _ c.in-Some-Some.ensures' (idle_posts.rest_idle _ _ _ c.in-Some-Some.ensures c.loop.invariant),
 )

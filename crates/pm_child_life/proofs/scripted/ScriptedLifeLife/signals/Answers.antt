@@ -1,4 +1,4 @@
-use Rattle.std.proofs.Common.{◌≡◌, ◌<◌, ◌^◌, length, arith, rules, get_or, sym}
+use Rattle.std.proofs.Common.{◌<◌, ◌^◌, length, arith, rules, sym}
 use Rattle.pm_child_life.proofs.Scripts.{told_next}
 use Rattle.pm_child_life.proofs.scripted.ScriptedLifeLife.signals.Goals as goal
 

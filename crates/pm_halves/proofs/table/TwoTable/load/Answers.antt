@@ -6,12 +6,12 @@ load-requires g c = laws.first_of g.T.Tie.words g.T.Tie.places g.P.TableRule.hol
 
 pub invariant_of-seat : goal.invariant_of-seat
 invariant_of-seat g c = let owes = laws.first_of g.T.Tie.words g.T.Tie.places g.P.TableRule.holds g.Q.TableRule.holds g.T.Tie.tied g.M.Play.then (λ n. n) (λ n. n) c.args.word 0 0 _ _ _ c.self.inside.table.shared.key _ _ _ c.self.invariant.0 c.seat.invariant c.self.view_is c.seat.view_is c.requires.may c.requires.ties in
-    (laws.first_behind g.T.Tie.words g.T.Tie.places g.M.Play.then c.load.result c.args.word 0 0 _ _ _ _ _ c.self.inside.table.shared.key _ _ _ _ c.seat.invariant owes.0 c.load.ensures.0 c.load.ensures.1 c.self.view_is c.seat.view_is c.load.ensures.2).2
+    (laws.first_after g.T.Tie.words g.T.Tie.places g.M.Play.then c.load.result c.args.word 0 0 _ _ _ _ _ c.self.inside.table.shared.key _ _ _ _ c.seat.invariant owes.0 c.load.ensures.0 c.load.ensures.1 c.self.view_is c.seat.view_is c.load.ensures.2).2
 
 pub returns-clause-told : goal.returns-clause-told
 returns-clause-told g c = let owes = laws.first_of g.T.Tie.words g.T.Tie.places g.P.TableRule.holds g.Q.TableRule.holds g.T.Tie.tied g.M.Play.then (λ n. n) (λ n. n) c.args.word 0 0 _ _ _ c.self.inside.table.shared.key _ _ _ c.self.invariant.0 c.seat.invariant c.self.view_is c.seat.view_is c.requires.may c.requires.ties in
-    (laws.first_behind g.T.Tie.words g.T.Tie.places g.M.Play.then c.load.result c.args.word 0 0 _ _ _ _ _ c.self.inside.table.shared.key _ _ _ _ c.seat.invariant owes.0 c.load.ensures.0 c.load.ensures.1 c.self.view_is c.seat.view_is c.load.ensures.2).0
+    (laws.first_after g.T.Tie.words g.T.Tie.places g.M.Play.then c.load.result c.args.word 0 0 _ _ _ _ _ c.self.inside.table.shared.key _ _ _ _ c.seat.invariant owes.0 c.load.ensures.0 c.load.ensures.1 c.self.view_is c.seat.view_is c.load.ensures.2).0
 
 pub returns-clause-more : goal.returns-clause-more
 returns-clause-more g c = let owes = laws.first_of g.T.Tie.words g.T.Tie.places g.P.TableRule.holds g.Q.TableRule.holds g.T.Tie.tied g.M.Play.then (λ n. n) (λ n. n) c.args.word 0 0 _ _ _ c.self.inside.table.shared.key _ _ _ c.self.invariant.0 c.seat.invariant c.self.view_is c.seat.view_is c.requires.may c.requires.ties in
-    (laws.first_behind g.T.Tie.words g.T.Tie.places g.M.Play.then c.load.result c.args.word 0 0 _ _ _ _ _ c.self.inside.table.shared.key _ _ _ _ c.seat.invariant owes.0 c.load.ensures.0 c.load.ensures.1 c.self.view_is c.seat.view_is c.load.ensures.2).1
+    (laws.first_after g.T.Tie.words g.T.Tie.places g.M.Play.then c.load.result c.args.word 0 0 _ _ _ _ _ c.self.inside.table.shared.key _ _ _ _ c.seat.invariant owes.0 c.load.ensures.0 c.load.ensures.1 c.self.view_is c.seat.view_is c.load.ensures.2).1

@@ -5,12 +5,12 @@ use Rattle.pm_once.proofs.server.Server.listen.Goals as goal
 
 pub returns-in_default : goal.returns-in_default
 returns-in_default g c =
-    let v : View = view_of c.args.self.now in
+    let v : View = view_of c.args.self in
     let gives = g.C.Clock.gives c.args.clock.now in
     ([], [], false, idle_serves gives v c.requires.idle, nothing_served c.args.seed.now c.args.conf.now.authentication_ms gives [] (g.P.Port.visits c.args.port.now) serves_nothing)
 
 pub returns-then-not-self : goal.returns-then-not-self
 returns-then-not-self g c =
-    let v : View = view_of c.args.self.now in
+    let v : View = view_of c.args.self in
     let gives = g.C.Clock.gives c.args.clock.now in
     ([], [], false, idle_serves gives v c.requires.idle, nothing_served c.args.seed.now c.args.conf.now.authentication_ms gives [] (g.P.Port.visits c.args.port.now) serves_nothing)

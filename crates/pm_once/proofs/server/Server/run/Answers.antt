@@ -5,21 +5,21 @@ use Rattle.pm_once.proofs.server.Server.run.Goals as goal
 
 pub rounds-init : goal.rounds-init
 rounds-init g c =
-    let v : View = view_of c.args.self.now in
+    let v : View = view_of c.args.self in
     let gives = g.C.Clock.gives c.args.clock.now in
     record { steps = []; connections = []; ended = false; serves = idle_serves gives v c.requires.idle; served = nothing_served c.args.seed.now c.args.conf.now.authentication_ms gives [] (g.P.Port.visits c.args.port.now) serves_nothing }
 
-pub round-requires : goal.round-requires
-round-requires g c =
+pub round-next-requires : goal.round-next-requires
+round-next-requires g c =
     let i = c.rounds.invariant in
     record { running = running_on (g.C.Clock.gives c.args.clock.now) i.steps _ _ c.requires.running i.serves.goes i.serves.stays; idle = i.serves.idle }
 
 pub rounds-preserved : goal.rounds-preserved
 rounds-preserved g c =
-    let v : View = view_of c.args.self.now in
+    let v : View = view_of c.args.self in
     let gives = g.C.Clock.gives c.args.clock.now in
     let i = c.rounds.invariant in
-    let two = c.in-Ok.ensures in
+    let two = rw c.in-Ok.is at c.round-next.ensures in
     record {
       steps = i.steps ++ two.0;
       connections = i.connections ++ two.1;
@@ -30,10 +30,10 @@ rounds-preserved g c =
 
 pub returns-in-Err : goal.returns-in-Err
 returns-in-Err g c =
-    let v : View = view_of c.args.self.now in
+    let v : View = view_of c.args.self in
     let gives = g.C.Clock.gives c.args.clock.now in
     let i = c.rounds.invariant in
-    let two = c.in-Err.ensures in (
+    let two = rw c.in-Err.is at c.round-next.ensures in (
       i.steps ++ two.0,
       i.connections ++ two.1,
       _,

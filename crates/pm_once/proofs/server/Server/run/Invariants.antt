@@ -8,6 +8,6 @@ invariant-rounds g l = record {
   steps : List Step;
   connections : List Connection;
   ended : Bool;
-  serves : Serves (g.C.Clock.gives l.clock) (Ok tt) connections ended steps (view_of l.initial.self) (view_of l.self);
+  serves : Serves (g.C.Clock.gives l.clock) (Ok tt) connections ended steps (view_of l.fn.self) (view_of l.server);
   served : HasServed l.seed l.conf.authentication_ms (g.C.Clock.gives l.clock) connections ended steps (g.P.Port.visits l.initial.port) (g.P.Port.visits l.port);
 }

@@ -5,9 +5,9 @@ use Rattle.pm_session.proofs.desk.Desk.converse.Given as goal
 
 abbrev pub invariant-loop : goal.invariant-loop
 invariant-loop g l = record {
-  talks : Conversing g.S.Store.notes (g.C.Clock.gives l.initial.means.clock.now) (user_of (g.S.Store.stamp l.initial.store) (g.S.Store.view l.initial.pass)) (at_desk l.initial.self l.initial.inbox l.initial.store) (at_desk l.self l.inbox l.store);
-  admits : g.S.Store.admits l.store l.pass;
-  user : user_of (g.S.Store.stamp l.store) (g.S.Store.view l.pass) ≡ user_of (g.S.Store.stamp l.initial.store) (g.S.Store.view l.initial.pass);
+  talks : Conversing g.W.Store.notes (g.C.Clock.gives l.initial.means.clock.now) (user_of (g.W.Store.stamp l.initial.self.work) (g.W.Store.view l.initial.pass)) (at_desk l.initial.self l.initial.inbox) (at_desk l.self l.inbox);
+  admits : g.W.Store.admits l.self.work l.pass;
+  user : user_of (g.W.Store.stamp l.self.work) (g.W.Store.view l.pass) ≡ user_of (g.W.Store.stamp l.initial.self.work) (g.W.Store.view l.initial.pass);
   holds : IsSound false l.initial.self.link.traffic → IsSound false l.self.link.traffic;
   empty : l.self.outbox.bytes ≡ [];
 }

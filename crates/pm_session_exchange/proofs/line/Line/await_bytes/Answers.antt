@@ -18,7 +18,11 @@ loop-self-preserved g c =
       );
       sound = λ sound. c.in_default.ensures.holds (c.loop-self.invariant.sound sound);
       hears = hears_fewer 0 1 _ _ (hears_both 0 1 _ _ _ c.loop-self.invariant.hears c.receive.ensures.hears);
+      rests = g.met.W.Life.rests_on _ _ _ c.loop-self.invariant.rests c.receive.ensures.rests;
     }
 
 pub returns-in-Err-clause-holds : goal.returns-in-Err-clause-holds
 returns-in-Err-clause-holds g c = λ sound. c.in-Err.ensures.holds (c.loop-self.invariant.sound sound)
+
+pub returns-in-Err-clause-rests : goal.returns-in-Err-clause-rests
+returns-in-Err-clause-rests g c = g.met.W.Life.rests_on _ _ _ c.loop-self.invariant.rests c.receive.ensures.rests

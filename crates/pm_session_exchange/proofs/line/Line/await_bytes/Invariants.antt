@@ -8,6 +8,7 @@ invariant-loop-self g l = record {
   came : (came : List ℕ) × (l.inbox ≡ l.initial.inbox ++ came) × Passes came [] l.initial.self.link l.self.link;
   sound : IsSound false l.initial.self.link.traffic → IsSound false l.self.link.traffic;
   hears : Hears 0 l.initial.self.child l.self.child;
+  rests : g.W.Seat.rests l.initial.self.work l.self.work;
 }
 
 abbrev pub decreases-loop-self : goal.decreases-loop-self

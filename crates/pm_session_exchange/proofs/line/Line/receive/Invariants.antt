@@ -8,4 +8,5 @@ invariant-loop g l = record {
   came : ReceivesNothing l.fn.inbox l.inbox l.fn.self.link l.self.link;
   sound : IsSound false l.fn.self.link.traffic → IsSound false l.self.link.traffic;
   hears : Hears 0 l.fn.self.child l.self.child;
+  rests : g.W.Seat.rests l.fn.self.work l.self.work;
 }

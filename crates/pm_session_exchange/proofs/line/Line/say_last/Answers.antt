@@ -12,10 +12,13 @@ something words is none =
     absurd cc
 
 pub returns-then-is_empty : goal.returns-then-is_empty
-returns-then-is_empty g c = rw (← c.self.view_is) (elim c.then-is_empty.branch [
-  | then-is_empty-via-then-is_empty w ↦ says_none c.args.words.now _ _ (inl (nothing c.args.words.now (sym c.is_empty.ensures ∙ w.if-is_empty.true)))
-  | then-is_empty-via-else-is_empty+then-is_killed w ↦ says_none c.args.words.now _ _ (inr (sym w.is_killed.ensures ∙ w.if-is_killed.true))
-])
+returns-then-is_empty g c = record {
+  says = rw (← c.self.view_is) (elim c.then-is_empty.branch [
+    | then-is_empty-via-then-is_empty w ↦ says_none c.args.words.now _ _ (inl (nothing c.args.words.now (sym c.is_empty.ensures ∙ w.if-is_empty.true)))
+    | then-is_empty-via-else-is_empty+then-is_killed w ↦ says_none c.args.words.now _ _ (inr (sym w.is_killed.ensures ∙ w.if-is_killed.true))
+  ]);
+  rests = g.met.W.Life.stands_still _;
+}
 
 pub returns : goal.returns
 returns g c =
@@ -24,4 +27,8 @@ returns g c =
     let kill = rw (← c.self-2.view_is) at c.send.ensures.kill in
     let holds = rw (← c.self-2.view_is) at c.send.ensures.holds in
     let hears = rw (← c.self-2.view_is) at c.send.ensures.hears in
-    said c.send.result c.args.words.now _ _ _ _ _ (something c.args.words.now (sym c.is_empty.ensures ∙ c.if-is_empty.false)) sends cause kill hears c.listen.ensures.hears holds
+    let rests = rw (← c.self-2.view_is) at c.send.ensures.rests in
+    record {
+      says = said c.send.result c.args.words.now _ _ _ _ _ (something c.args.words.now (sym c.is_empty.ensures ∙ c.if-is_empty.false)) sends cause kill hears c.listen.ensures.hears holds;
+      rests = g.met.W.Life.rests_on _ _ _ rests c.listen.ensures.rests;
+    }

@@ -10,6 +10,7 @@ loop-rest-preserved g c =
     record {
       sent = sends_on _ _ _ _ _ sent (wrote_nothing_yet _ _ c.loop-rest.rest.now c.in-NotYet.ensures.traffic c.in-NotYet.ensures.number c.in-NotYet.ensures.cause.later);
       hears = hears_fewer 0 1 _ _ (hears_both 0 1 _ _ _ c.loop-rest.invariant.hears c.listen.ensures.hears);
+      rests = g.met.W.Life.rests_on _ _ _ c.loop-rest.invariant.rests c.listen.ensures.rests;
       sound = λ ended sound. not_yet_sound ended _ _ c.loop-rest.rest.now c.in-NotYet.ensures.traffic (subst (IsSound ended) (sym c.hurry_where.ensures.traffic) (c.loop-rest.invariant.sound ended sound));
     }
 
@@ -19,6 +20,7 @@ loop-rest-preserved-in-Count g c =
     record {
       sent = sends_more _ _ _ c.in-Count.count _ _ _ (rest_of c.loop-rest.rest.now c.in-Count.count) sent (wrote _ _ c.in-Count.count c.loop-rest.rest.now c.in-Count.ensures.traffic c.in-Count.ensures.number c.in-Count.ensures.cause.later);
       hears = hears_fewer 0 1 _ _ (hears_both 0 1 _ _ _ c.loop-rest.invariant.hears c.listen.ensures.hears);
+      rests = g.met.W.Life.rests_on _ _ _ c.loop-rest.invariant.rests c.listen.ensures.rests;
       sound = λ ended sound. wrote_sound ended _ _ c.in-Count.count c.loop-rest.rest.now c.in-Count.ensures.traffic (subst (IsSound ended) (sym c.hurry_where.ensures.traffic) (c.loop-rest.invariant.sound ended sound));
     }
 
@@ -34,3 +36,9 @@ returns-then-is_killed-clause-hears g c = hears_fewer 0 1 _ _ (hears_both 0 1 _ 
 
 pub returns-in-Failed-clause-hears : goal.returns-in-Failed-clause-hears
 returns-in-Failed-clause-hears g c = hears_fewer 0 1 _ _ (hears_both 0 1 _ _ _ c.loop-rest.invariant.hears c.listen.ensures.hears)
+
+pub returns-then-is_killed-clause-rests : goal.returns-then-is_killed-clause-rests
+returns-then-is_killed-clause-rests g c = g.met.W.Life.rests_on _ _ _ c.loop-rest.invariant.rests c.listen.ensures.rests
+
+pub returns-in-Failed-clause-rests : goal.returns-in-Failed-clause-rests
+returns-in-Failed-clause-rests g c = g.met.W.Life.rests_on _ _ _ c.loop-rest.invariant.rests c.listen.ensures.rests

@@ -2,33 +2,33 @@ use Rattle.std.proofs.Common.{refl, sym, ap, ◌∙◌, subst}
 use Rattle.pm_supervisor.specs.Children.{is_session}
 use Rattle.pm_board.specs.{Gate.{place_of, gate_answer}, Told.{post_of, tried, reposted}, Models.{HoldsMail, RunsKind, RunsPid}}
 use Rattle.pm_board.proofs.Steps as steps
-use Rattle.pm_board.proofs.post.Post.try_gate.Goals as goal
+use Rattle.pm_board.proofs.post.Post.take_place.Goals as goal
 
 pub fetch_add-found-requires : goal.fetch_add-found-requires
 fetch_add-found-requires g c =
     let inv = c.self.invariant in
     let first = ap (λ b. b.shared.table_id) c.deref.ensures ∙ inv.0 in
     let t = ap (λ b. b.shared.table_id) c.deref-2.ensures ∙ inv.0 in
-    let does = ap (λ v. v.knows.work) c.self.view_is ∙ c.requires.1 in
+    let does = ap (λ v. v.knows.work) c.self.view_is ∙ c.requires.may.1 in
     let has = subst (λ w. HoldsMail c.self.inside.index w c.self.inside.seat.me.1) does inv.4 in
     let runs = subst (RunsKind c.self.inside.kind) does inv.5 in
     let gate = steps.gate_in _ _ _ (c.slot_count-gate.ensures ∙ ap (λ z. z.slots) first) inv.2 t in
-    (sym t, gate.0, steps.tries_as g.J.Letter _ _ _ _ _ _ c.requires.0 _ _ _ _ gate.1 (c.place-adds.ensures ∙ ap (λ k. place_of (is_session k)) runs) c.requires.2 (steps.doing_at c.self.inside.index c.self.inside.seat.me _ _ inv.1 does has))
+    (sym t, gate.0, steps.tries_as g.J.Letter _ g.C.Comes.is_ordinary _ _ _ _ _ c.requires.may.0 _ _ _ _ gate.1 (c.place-adds.ensures ∙ ap (λ k. place_of (is_session k)) runs) c.requires.may.2 (steps.doing_at c.self.inside.index c.self.inside.seat.me _ _ inv.1 does has))
 
 pub answer_at-requires : goal.answer_at-requires
 answer_at-requires g c =
-    let does = ap (λ v. v.knows.work) c.self.view_is ∙ c.requires.1 in
-    (c.fetch_add-found.ensures.2 c.requires.0 does).1
+    let does = ap (λ v. v.knows.work) c.self.view_is ∙ c.requires.may.1 in
+    (c.fetch_add-found.ensures.2 c.requires.may.0 does).1
 
 pub invariant_of-self : goal.invariant_of-self
 invariant_of-self g c =
     let inv = c.self.invariant in
-    let does = ap (λ v. v.knows.work) c.self.view_is ∙ c.requires.1 in
+    let does = ap (λ v. v.knows.work) c.self.view_is ∙ c.requires.may.1 in
     let has = subst (λ w. HoldsMail c.self.inside.index w c.self.inside.seat.me.1) does inv.4 in
     let runs = subst (RunsKind c.self.inside.kind) does inv.5 in
     let named = subst (RunsPid c.self.inside.pid) does inv.7 in
-    let is = steps.reposted_as c.self.inside.index c.self.inside.seat.me _ _ _ inv.1 has (c.fetch_add-found.ensures.2 c.requires.0 does).0 in
-    steps.tried_sealed _ _ _ _ _ _ _ _ (post_of c.self.inside.seat.me.0) c.requires.0 c.fetch_add-found.result _ inv.0 c.fetch_add-found.ensures.0 inv.2 inv.3 is refl runs inv.6 named inv.8
+    let is = steps.reposted_as c.self.inside.index c.self.inside.seat.me _ _ _ inv.1 has (c.fetch_add-found.ensures.2 c.requires.may.0 does).0 in
+    steps.tried_sealed _ _ _ _ _ _ _ _ (post_of c.self.inside.seat.me.0) c.requires.may.0 g.C.Comes.is_ordinary c.fetch_add-found.result _ inv.0 c.fetch_add-found.ensures.0 inv.2 inv.3 is refl runs inv.6 named inv.8
 
 pub returns-clause-met : goal.returns-clause-met
 returns-clause-met g c o does =
@@ -36,9 +36,9 @@ returns-clause-met g c o does =
     let mine = ap (λ v. v.knows.work) c.self.view_is ∙ does in
     let did = (c.fetch_add-found.ensures.2 o mine).0 in
     let runs = subst (RunsKind c.self.inside.kind) mine inv.5 in
-    let answer = c.answer_at.ensures ∙ (λ i. gate_answer (runs i) (inv.6 i) c.fetch_add-found.result) ∙ ap (λ v. gate_answer o.kind v.knows.notes.session_limit c.fetch_add-found.result) c.self.view_is in (
+    let answer = c.answer_at.ensures ∙ (λ i. gate_answer (runs i) c.args.is_ordinary (inv.6 i) c.fetch_add-found.result) ∙ ap (λ v. gate_answer o.kind c.args.is_ordinary v.knows.notes.session_limit c.fetch_add-found.result) c.self.view_is in (
       c.fetch_add-found.result,
       answer,
-      ap (λ m. post_of m.0) did ∙ ap (λ z. post_of (reposted z (tried (post_of c.self.inside.seat.me.0) o c.fetch_add-found.result))) inv.1 ∙ ap (λ v. tried v.knows o c.fetch_add-found.result) c.self.view_is,
+      ap (λ m. post_of m.0) did ∙ ap (λ z. post_of (reposted z (tried (post_of c.self.inside.seat.me.0) o g.C.Comes.is_ordinary c.fetch_add-found.result))) inv.1 ∙ (λ i. tried (c.self.view_is i).knows o (c.requires.comes i) c.fetch_add-found.result),
       (c.fetch_add-found.ensures.2 o mine).2,
     )
