@@ -3,7 +3,7 @@ use Rattle.std.{proofs.Common.{◌≡◌, ◌≢◌, ℕ, zero, suc, ◌+◌, �
 use Rattle.pm_exit.specs.declared.child.{Kind.Kind, Status.Status}
 use Rattle.pm_exit.specs.declared.child.Kind.TheVariants as kind
 use Rattle.pm_exit.specs.declared.child.Status.TheVariants as status
-use Rattle.pm_board.specs.Words.{bit, flag, kind_number, kind_of, signal_bit, status_number, status_of, SlotWord, packed, exit_step, stage_in, active_in, kind_in, status_in, pid_in, FitsWord}
+use Rattle.pm_board_words.specs.Words.{bit, flag, kind_number, kind_of, signal_bit, status_number, status_of, SlotWord, packed, exit_step, stage_in, active_in, kind_in, status_in, pid_in, FitsWord}
 
 pub bit_small : (b : Bool) → bit b < 2
 bit_small true = omega arith

@@ -2,7 +2,8 @@
 use Rattle.std.proofs.Common.{◌≡◌, ℕ, ◌+◌, true, false, List, [], ◌∷◌, ◌++◌, refl, arith, Bool, ◌≤◌}
 use Rattle.pm_exit.specs.declared.child.Kind.{Kind}
 use Rattle.pm_exit.specs.declared.child.Kind.TheVariants as kind
-use Rattle.pm_board.specs.{declared.views.RosterStep.RosterStep, Latches.times_sent, Places.{is_auxiliary, is_connection}, Words.bit}
+use Rattle.pm_board_words.specs.{declared.views.RosterStep.RosterStep, Words.bit}
+use Rattle.pm_board.specs.{Latches.times_sent, Places.{is_auxiliary, is_connection}}
 
 -- startup child, checkpointer and writer answer no connection
 pub no_connection : (kind : Kind) → is_auxiliary kind ≡ true → is_connection kind ≡ false

@@ -1,7 +1,8 @@
 -- The children that the supervisor sees: how they change with one slot, and their counts.
 use Rattle.std.{proofs.Common.{◌≡◌, ℕ, zero, suc, ◌+◌, ◌<◌, ◌≤◌, List, [], ◌∷◌, length, get_or, set, refl, sym, ap, ◌∙◌, arith}, specs.Prelude.{Bool, Option, Some, None, replicate}}
 use Rattle.pm_exit.specs.declared.child.Kind.{Kind}
-use Rattle.pm_board.specs.{declared.views.{RosterNotes.RosterNotes, Sight.{Sight, TheVariants.Unused}, SlotView.SlotView, RosterView.RosterView}, Words.bit, Places.{slot_view, slot_at}, Children.{child_seen, child_in_slot, children_of, counted_by, count_of, AreAll, HasFree}, Told.with_slot}
+use Rattle.pm_board_words.specs.{declared.views.{RosterNotes.RosterNotes, Sight.{Sight, TheVariants.Unused}, SlotView.SlotView, RosterView.RosterView}, Words.bit}
+use Rattle.pm_board.specs.{Places.{slot_view, slot_at}, Children.{child_seen, child_in_slot, children_of, counted_by, count_of, AreAll, HasFree}, Told.with_slot}
 
 module _ {D : Type 0} where
   pub children_set : (xs : List (SlotView D)) (k : ℕ) (x : SlotView D) → children_of (set xs k x) ≡ set (children_of xs) k (child_seen x.sight)

@@ -4,7 +4,8 @@ use Rattle.pm_facts.specs.Numbers.{sum_below, sum_put}
 use Rattle.pm_supervisor.specs.{pm_exit.declared.child.Kind.Kind, declared.Reason.Reason, Children.{is_session, is_dead_end}}
 use Rattle.pm_supervisor.specs.pm_exit.declared.child.Kind.TheVariants as kind
 use Rattle.pm_supervisor.specs.declared.Reason.TheVariants as reason
-use Rattle.pm_board.{specs.{declared.views.{SessionLimit.SessionLimit, Offer.Offer, PastChild.PastChild, Work.{Work, TheVariants.{Idle, Sees, Inactive, Active, Refused, Attached}}, PostView.PostView}, Words.{bit, flag}, Places.{is_auxiliary, lost}, Gate.{Gate, notice_bits, notice_of, sessions_in, open_in, notice_in, generation_in, place_of, at_gate, attached, counted, staying, AllUpTo, GateOk}, Rule.{Phase, unused, opened, offered, running, ended, collected, gathered, Does, OfLiving, Cell, put, at_put}}, proofs.Bits.{bit_small, flag_bit}}
+use Rattle.pm_board_words.specs.{declared.views.{SessionLimit.SessionLimit, Offer.Offer, PastChild.PastChild, Work.{Work, TheVariants.{Idle, Sees, Inactive, Active, Refused, Attached}}, PostView.PostView}, Words.{bit, flag}, GateWords.{notice_bits, notice_of, sessions_in, open_in, notice_in, generation_in, place_of}}
+use Rattle.pm_board.{specs.{Places.{is_auxiliary, lost}, Gate.{Gate, at_gate, attached, counted, staying, AllUpTo, GateOk}, Rule.{Phase, unused, opened, offered, running, ended, collected, gathered, Does, OfLiving, Cell, put, at_put}}, proofs.Bits.{bit_small, flag_bit}}
 
 pub sum_small : (n : ℕ) (f : ℕ → ℕ) → ((k : ℕ) → k < n → f k ≤ 1) → sum_below n f ≤ n
 sum_small zero f h = omega arith

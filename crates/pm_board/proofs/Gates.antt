@@ -2,7 +2,8 @@
 use Rattle.std.{proofs.Common.{◌≡◌, ℕ, zero, suc, ◌+◌, ◌<◌, ◌≤◌, ◌==◌, List, [], ◌∷◌, ◌++◌, get_or, set, refl, sym, ap, ◌∙◌, subst, arith, eq-eqb, get_or-set_other}, specs.Prelude.{Bool, true, false, ◌&&◌}}
 use Rattle.pm_facts.specs.Numbers.{sum_below, sum_same, sum_zero}
 use Rattle.pm_supervisor.specs.{pm_exit.declared.child.{Kind.Kind, Status.Status}, Children.is_session}
-use Rattle.pm_board.specs.{declared.views.{SessionLimit.SessionLimit, Offer.Offer, PastChild.PastChild, PostNotes.PostNotes, Work.{Work, TheVariants.{Idle, Sees, Inactive, Active, Refused, Attached}}, PostView.PostView}, Words.bit, Places.{is_auxiliary, lost}, Gate.{Gate, gate_packed, at_gate, attached, counted, staying, IsCurrent, AllUpTo, InGeneration, AuxiliaryOnce, GateOk, first_gate}, Rule.{Phase, unused, offered, running, ended, OfLiving, Cell, put, at_put, idle_post}, Told.{MayEnd, post_view, with_notes, past_child}}
+use Rattle.pm_board_words.specs.{declared.views.{SessionLimit.SessionLimit, Offer.Offer, PastChild.PastChild, PostNotes.PostNotes, Work.{Work, TheVariants.{Idle, Sees, Inactive, Active, Refused, Attached}}, PostView.PostView}, Words.bit, GateWords.gate_packed}
+use Rattle.pm_board.specs.{Places.{is_auxiliary, lost}, Gate.{Gate, at_gate, attached, counted, staying, IsCurrent, AllUpTo, InGeneration, AuxiliaryOnce, GateOk, first_gate}, Rule.{Phase, unused, offered, running, ended, OfLiving, Cell, put, at_put, idle_post}, Told.{MayEnd, post_view, with_notes, past_child}}
 
 module _ {D : Type 0} where
   pub lost-append : (test : Kind → Bool) (g : ℕ) (xs : List (PastChild D)) (x : PastChild D) → lost test g (xs ++ x ∷ []) ≡ lost test g xs + bit (x.was_active && ((x.offer.generation == g) && test x.offer.kind))

@@ -1,11 +1,10 @@
 -- Each step at the gate keeps the rule.
-use Rattle.std.proofs.{Common.{◌≡◌, ℕ, zero, suc, ◌+◌, ◌-◌, ◌*◌, ◌%◌, ◌^◌, ◌<◌, ◌≤◌, List, [], ◌∷◌, ◌++◌, length, get_or, sym, refl, inl, inr, ap, ◌∙◌, subst, arith, get_or-set_same}, Math.Nat.{mod-eq_of_lt, zero-add}}
+use Rattle.std.{proofs.{Common.{◌≡◌, ℕ, zero, suc, ◌+◌, ◌-◌, ◌*◌, ◌%◌, ◌^◌, ◌<◌, ◌≤◌, List, [], ◌∷◌, ◌++◌, length, get_or, sym, refl, inl, inr, ap, ◌∙◌, subst, arith, get_or-set_same}, Math.Nat.{mod-eq_of_lt, zero-add}, lemmas.Bool.{ltb-true, ltb-false}}, specs.{List.Contains, Prelude.{Bool, true, false, nat_lt, not, if◌then◌else◌, Option, Some, None, Result, Ok, Err, IsSomeAnd}}}
 use native.Mathlib.Nat.{add-mod_right}
 use mathlib.Core.Logic.{dite}
 use mathlib.Core.Option.{none, some}
 use native.Mathlib.Decide.{dec_le}
 use lib.ListN.{get_elem?}
-use Rattle.std.{specs.{List.Contains, Prelude.{Bool, true, false, nat_lt, not, if◌then◌else◌, Option, Some, None, Result, Ok, Err, IsSomeAnd}}, proofs.lemmas.Bool.{ltb-true, ltb-false}}
 use Rattle.atomic_table.specs.Table.{step, Act, keeps, Valid, stepped, carried_after, Allows}
 use Rattle.pm_facts.specs.Numbers.{sum_below, sum_zero}
 use Rattle.pm_supervisor.specs.{pm_exit.declared.child.{Kind.Kind, Status.TheVariants.Code}, declared.Reason.Reason, Children.{Child, is_session, is_startup_child, is_dead_end, attached_sessions}}
@@ -14,10 +13,11 @@ use Rattle.pm_supervisor.specs.declared.Reason.TheVariants as reason
 use Rattle.pm_supervisor.specs.Shared as shared
 use Rattle.pm_child_life.specs.{declared.life.GateNo.{GateNo}, Life.attempt}
 use Rattle.pm_child_life.specs.declared.life.GateNo.TheVariants as gate_no
-use Rattle.pm_board.{specs.{Slots.child_slots, declared.views.{SessionLimit.SessionLimit, Offer.Offer, PastChild.PastChild, PostNotes.PostNotes, RosterStep.RosterStep, RosterView.RosterView, Sight.{Sight, TheVariants.{Unused, Opened, Assigned, Exited, Collected, Gathered}}, SlotView.SlotView, Work.{Work, TheVariants.{Idle, Inactive, Active, Refused, Attached}}, PostView.PostView, View.{View, TheVariants.{Postmaster, Worker}}}, Words.bit, Places.{slot_at, slot_view, SlotServes, is_auxiliary, lost, is_used, used_in}, Gate.{Gate, reserve_by, session_answer, GateAnswers, gate_of, notice_bits, gate_packed, sessions_in, open_in, notice_in, generation_in, place_of, answer_to, gate_answer, at_gate, attached, counted, staying, IsCurrent, AllUpTo, InGeneration, AuxiliaryOnce, GateOk}, Rule.{at_put, put, Phase, unused, opened, offered, running, ended, collected, gathered, child_word, Seen, Does, OfChild, OfLiving, IsPlaced, Cell, Holds}, Latches.{NotReleased, IsAssignedBy, AnsweredBefore, doings}, History.{living, Kept}, Told.{Seated, post_view, tried, tried_by, detached, after_step, MayQuit, quit_step, ready_step, new_gate, Marks, Unmarks, Tries, BacksOut, Detaches, Quits, Readies, Resets}}, proofs.{Bits.{bit_small, packed_small}, Moves.{rebased, worker_step, word_step, word_turn, St}, Gates.{uncounted_by, gate_moves, once_still}, Counts.{sum_within, notice_small, place_is, up_to_more, none_lost, attached_within, count_moves, Reads, reads}, Latches.{at_last, answered_now, quit_is_no_release, ready_is_no_release, reset_is_no_release, hears_met, latch_here, latches_still, latches_turn}, Seats.{seats_step, seats_still}, Histories.{kept, same_history, quiet}, Passes.{is_false, lives, passes, shown_attached, quit_history, ready_history, reset_history}, Keeps.{grown, fits_for, at_phase, placed_as, owned, does_run, does_act, does_back, does_stay}}}
-use Rattle.pm_board.specs.declared.views.Letter as Letter
-use Rattle.pm_board.specs.declared.views.PostStep.TheVariants as post_step
-use Rattle.pm_board.specs.declared.views.RosterStep.TheVariants as roster_step
+use Rattle.pm_board_words.specs.{declared.views.{SessionLimit.SessionLimit, Offer.Offer, PastChild.PastChild, PostNotes.PostNotes, RosterStep.RosterStep, RosterView.RosterView, Sight.{Sight, TheVariants.{Unused, Opened, Assigned, Exited, Collected, Gathered}}, SlotView.SlotView, Work.{Work, TheVariants.{Idle, Inactive, Active, Refused, Attached}}, PostView.PostView, View.{View, TheVariants.{Postmaster, Worker}}}, Words.bit, GateWords.{reserve_by, session_answer, notice_bits, gate_packed, sessions_in, open_in, notice_in, generation_in, place_of, answer_to, gate_answer, MayQuit, quit_step, ready_step, new_gate}}
+use Rattle.pm_board.{specs.{Slots.child_slots, Places.{slot_at, slot_view, SlotServes, is_auxiliary, lost, is_used, used_in}, Gate.{Gate, GateAnswers, gate_of, at_gate, attached, counted, staying, IsCurrent, AllUpTo, InGeneration, AuxiliaryOnce, GateOk}, Rule.{at_put, put, Phase, unused, opened, offered, running, ended, collected, gathered, child_word, Seen, Does, OfChild, OfLiving, IsPlaced, Cell, Holds}, Latches.{NotReleased, IsAssignedBy, AnsweredBefore, doings}, History.{living, Kept}, Told.{Seated, post_view, tried, tried_by, detached, after_step, Marks, Unmarks, Tries, BacksOut, Detaches, Quits, Readies, Resets}}, proofs.{Bits.{bit_small, packed_small}, Moves.{rebased, worker_step, word_step, word_turn, St}, Gates.{uncounted_by, gate_moves, once_still}, Counts.{sum_within, notice_small, place_is, up_to_more, none_lost, attached_within, count_moves, Reads, reads}, Latches.{at_last, answered_now, quit_is_no_release, ready_is_no_release, reset_is_no_release, hears_met, latch_here, latches_still, latches_turn}, Seats.{seats_step, seats_still}, Histories.{kept, same_history, quiet}, Passes.{is_false, lives, passes, shown_attached, quit_history, ready_history, reset_history}, Keeps.{grown, fits_for, at_phase, placed_as, owned, does_run, does_act, does_back, does_stay}}}
+use Rattle.pm_board_words.specs.declared.views.Letter as Letter
+use Rattle.pm_board_words.specs.declared.views.PostStep.TheVariants as post_step
+use Rattle.pm_board_words.specs.declared.views.RosterStep.TheVariants as roster_step
 
 less : (x a y : ℕ) → x ≡ y + a → a ≤ 18446744073709551616 → x < 18446744073709551616 → (x + (2 ^ 64 - a)) % 2 ^ 64 ≡ y
 less x a y e small h = let s : x + (2 ^ 64 - a) ≡ y + 2 ^ 64 = omega arith in ap (λ (z : ℕ). z % 2 ^ 64) s ∙ (add-mod_right y (2 ^ 64) ∙ (let l : y < 2 ^ 64 = omega arith in mod-eq_of_lt l))

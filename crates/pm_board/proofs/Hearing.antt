@@ -1,10 +1,10 @@
 -- What the seats know of what children heard.
-use Rattle.std.proofs.Common.{◌≡◌, ◌⊎◌, inl, inr, ℕ, zero, suc, ◌+◌, ◌==◌, ◌<◌, ◌≤◌, List, [], ◌∷◌, ◌++◌, length, refl, sym, ap, ◌∙◌, subst, arith, append-nil, ne_eqb}
+use Rattle.std.{proofs.{Common.{◌≡◌, ◌⊎◌, inl, inr, ℕ, zero, suc, ◌+◌, ◌==◌, ◌<◌, ◌≤◌, List, [], ◌∷◌, ◌++◌, length, refl, sym, ap, ◌∙◌, subst, arith, append-nil, ne_eqb}, lemmas.List.get_or_past}, specs.{Prelude.{true, false}, List.{Contains, AllByRecursion}}}
 use mathlib.Core.Logic.{dite}
 use native.Mathlib.Decide.{ℕ_discrete, dec_le}
-use Rattle.std.{proofs.lemmas.List.get_or_past, specs.{Prelude.{true, false}, List.{Contains, AllByRecursion}}}
 use Rattle.pm_facts.specs.Numbers.{sum_below}
-use Rattle.pm_board.{specs.{declared.views.{SessionLimit.SessionLimit, Cancel.Cancel, Heard.Heard, Offer.Offer, PastChild.PastChild, PostNotes.PostNotes, PostView.PostView, RosterStep.RosterStep, RosterView.RosterView, Sight.{Sight, TheVariants.{Unused, Gathered}}, SlotView.SlotView, View.View}, Gate.InGeneration, Heard.{HoldsCancel, KnowsCancel, WasMade, IsKnownAtLast, HeardAsSent}, Latches.{Doings, doings, doings_of, HeardRightly, EachHeard, HeardBy, beside, waiting, times_made, WereMade, cancel_at, Latches}, Words.bit, Places.{slot_view, slot_at}, Rule.{Cell, idle_post}, Seats.{is_gathered, HasSeat, held, taken, Seats}}, proofs.Latches.{heard-more, each-map}}
+use Rattle.pm_board_words.specs.{declared.views.{SessionLimit.SessionLimit, Cancel.Cancel, Heard.Heard, Offer.Offer, PastChild.PastChild, PostNotes.PostNotes, PostView.PostView, RosterStep.RosterStep, RosterView.RosterView, Sight.{Sight, TheVariants.{Unused, Gathered}}, SlotView.SlotView, View.View}, Words.bit}
+use Rattle.pm_board.{specs.{Gate.InGeneration, Heard.{HoldsCancel, KnowsCancel, WasMade, IsKnownAtLast, HeardAsSent}, Latches.{Doings, doings, doings_of, HeardRightly, EachHeard, HeardBy, beside, waiting, times_made, WereMade, cancel_at, Latches}, Places.{slot_view, slot_at}, Rule.{Cell, idle_post}, Seats.{is_gathered, HasSeat, held, taken, Seats}}, proofs.Latches.{heard-more, each-map}}
 use Rattle.pm_keys.specs.CancelKey.{cancel_key}
 
 module _ {D : Type 0} (steps : List RosterStep) (limit : SessionLimit) (limit' : SessionLimit) (same : limit ≡ limit') (before after : ℕ → ℕ → Type 0) (grow : (pid times : ℕ) → before pid times → after pid times) where

@@ -1,16 +1,16 @@
 -- How the history follows each step.
-use Rattle.std.{proofs.{Common.{◌≡◌, ◌≢◌, ℕ, ◌<◌, ◌≤◌, ◌==◌, List, [], ◌∷◌, ◌++◌, length, map, get_or, refl, sym, ap, ◌∙◌, subst, arith, ne_eqb, eq-eqb, append-nil}, lemmas.{List.map-append, Grind.flat_map-append}}, specs.List.flat_map}
+use Rattle.std.{proofs.{Common.{◌≡◌, ◌≢◌, ℕ, ◌<◌, ◌≤◌, ◌==◌, List, [], ◌∷◌, ◌++◌, length, map, get_or, refl, sym, ap, ◌∙◌, subst, arith, ne_eqb, eq-eqb, append-nil}, lemmas.{List.map-append, Grind.flat_map-append}}, specs.{List.flat_map, Prelude.{Bool, true, false, if◌then◌else◌, Option, Some, None, IsSomeAnd}}}
 use lib.ListN.{get_elem?}
 use mathlib.Core.Option.{some}
 use mathlib.Core.Logic.{dite}
 use native.Mathlib.Decide.{ℕ_discrete}
-use Rattle.std.specs.Prelude.{Bool, true, false, if◌then◌else◌, Option, Some, None, IsSomeAnd}
 use Rattle.atomic_table.specs.Table.{State}
 use Rattle.pm_supervisor.specs.{pm_exit.declared.child.Kind.Kind, Children.{Child, child_of, without}, Supervisor.{Shared, first}, Shared.{SharedEvent, after_shared}}
 use Rattle.pm_supervisor.specs.Shared as shared
-use Rattle.pm_board.{specs.{Slots.child_slots, declared.views.{SessionLimit.SessionLimit, Offer.Offer, PastChild.PastChild, Sight.{Sight, TheVariants.{Unused, Opened, Assigned, Exited, Collected, Gathered}}, RosterView.RosterView, Work.Work, View.{View, TheVariants.Postmaster}, RosterStep.{RosterStep, TheVariants.{Assign, Release, Send}}, Signal.Signal, PostStep.PostStep, PostView.PostView}, Places.slot_at, Gate.{Gate, GateOk, gate_after, gate_of_steps, first_gate, gate_of}, Told.after_step, Latches.{NotReleased, NotSent, OfUnreleased, Latches}, Seats.Seats, Rule.{Phase, unused, opened, offered, running, ended, collected, gathered, Seen, used_pid, Cell, Holds, put, at_put}, History.{Entry, begins, goes_on, supervisor_event, supervisor_in, of_supervisor, worker_event, leave_of, event_of, events_of, worker_step, pid_and_kind, living, shown_child, ShowsChild, Shows, OwnSteps, OwnPart, History, Kept}}, proofs.Latches.{release_is_other, sent_to_other}}
-use Rattle.pm_board.specs.declared.views.Letter as Letter
-use Rattle.pm_board.specs.declared.views.PostStep.TheVariants as post_step
+use Rattle.pm_board_words.specs.declared.views.{SessionLimit.SessionLimit, Offer.Offer, PastChild.PastChild, Sight.{Sight, TheVariants.{Unused, Opened, Assigned, Exited, Collected, Gathered}}, RosterView.RosterView, Work.Work, View.{View, TheVariants.Postmaster}, RosterStep.{RosterStep, TheVariants.{Assign, Release, Send}}, Signal.Signal, PostStep.PostStep, PostView.PostView}
+use Rattle.pm_board.{specs.{Slots.child_slots, Places.slot_at, Gate.{Gate, GateOk, gate_after, gate_of_steps, first_gate, gate_of}, Told.after_step, Latches.{NotReleased, NotSent, OfUnreleased, Latches}, Seats.Seats, Rule.{Phase, unused, opened, offered, running, ended, collected, gathered, Seen, used_pid, Cell, Holds, put, at_put}, History.{Entry, begins, goes_on, supervisor_event, supervisor_in, of_supervisor, worker_event, leave_of, event_of, events_of, worker_step, pid_and_kind, living, shown_child, ShowsChild, Shows, OwnSteps, OwnPart, History, Kept}}, proofs.Latches.{release_is_other, sent_to_other}}
+use Rattle.pm_board_words.specs.declared.views.Letter as Letter
+use Rattle.pm_board_words.specs.declared.views.PostStep.TheVariants as post_step
 
 -- lists of children
 

@@ -1,17 +1,17 @@
 -- Each step keeps the rule.
-use Rattle.std.proofs.{Common.{◌≡◌, ◌≢◌, ◌⊎◌, inl, ℕ, zero, suc, ◌+◌, ◌*◌, ◌%◌, ◌^◌, ◌<◌, ◌≤◌, List, [], ◌∷◌, ◌++◌, length, map, get_or, set, sym, refl, ap, ◌∙◌, subst, ⊎_elim, arith, length-set, get_or-set_other, get_or-set_same, append-nil}, lemmas.List.{length-map, length-replicate}, Math.Nat.mod-eq_of_lt}
+use Rattle.std.{proofs.{Common.{◌≡◌, ◌≢◌, ◌⊎◌, inl, ℕ, zero, suc, ◌+◌, ◌*◌, ◌%◌, ◌^◌, ◌<◌, ◌≤◌, List, [], ◌∷◌, ◌++◌, length, map, get_or, set, sym, refl, ap, ◌∙◌, subst, ⊎_elim, arith, length-set, get_or-set_other, get_or-set_same, append-nil}, lemmas.List.{length-map, length-replicate, Elements.Contains-append_left}, Math.Nat.mod-eq_of_lt}, specs.Prelude.{Bool, true, false, Option, Some, None, replicate}}
 use mathlib.Core.Logic.{dite}
 use mathlib.Core.Option.{none, some, some-ne-none, some-injective}
 use mathlib.Core.Option as maybe
 use native.Mathlib.Decide.{ℕ_discrete}
 use lib.ListN.{get_elem?}
 use lib.Seq.{set-get_or}
-use Rattle.std.{proofs.lemmas.List.Elements.Contains-append_left, specs.Prelude.{Bool, true, false, Option, Some, None, replicate}}
 use Rattle.atomic_table.{specs.Table.{step, keeps, takes, gives, stepped, opening, Allows, Joins}, proofs.Lists.{at_set, set_here, set_else, set_again}}
 use Rattle.pm_facts.specs.Lists.{at_end, same_everywhere}
 use Rattle.pm_exit.specs.declared.child.Status.{Status, TheVariants.Code}
-use Rattle.pm_board.{specs.{Slots.{child_slots, is_slot}, declared.views.{SessionLimit.SessionLimit, Offer.Offer, PastChild.PastChild, PostNotes.PostNotes, PostStep.TheVariants.Exit, RosterNotes.RosterNotes, RosterStep.{RosterStep, TheVariants.{Assign, Release}}, Sight.TheVariants.{Unused, Opened, Assigned, Exited, Collected, Gathered}, SlotView.SlotView, RosterView.RosterView, Work.{Work, TheVariants.{Idle, Sees, Inactive, Active, Refused, Attached}}, PostView.PostView, View.{View, TheVariants.{Postmaster, Worker, Spent}}}, Words.{bit, kind_number, kind_of, signal_bit, status_number, exit_step, stage_in, active_in, status_in, FitsWord}, Places.{slot_view, slot_at, is_auxiliary, lost, SlotServes, EndsWell}, Rule.{at_put, put, Phase, unused, opened, offered, running, ended, collected, gathered, child_word, offer_word, word_of, Seen, Does, OfChild, OfLiving, IsPlaced, used_pid, PidsOk, Cell, SlotOk, Agrees, Holds, idle_post}, Gate.{GateOk, gate_of}, Latch.{latch_place, cancel_place}, Latches.{times_sent, WereMade, latch_at, cancel_at, Latches}, Seats.is_gathered, History.Kept, Told.{MayEnd, Assigns, Loads, Starts, Ends, Looks, Releases, Clears, Compares, post_view, past_child, with_slot, noted_assign, noted_release, noted_look, noted_load, noted_start, noted_exit, assigned_slot, running_slot, exited_slot, dealt_more, next_post, with_post, taken_in, newcomer, new_roster}}, proofs.{Bits.{kind_small, kind_again, active_again, status_read, packed_small, same_exit}, Gates.{uncounted, uncounted_by, gate_moves, ended_counts, once_still, once_offered, once_ended, first_gate_ok}, Moves.{rebased, master_step, worker_step, St}, Passes.lives, Latches.{at_last, reach-more, not_released-append, assign_is_no_release, release_is_other, unreleased_all, each-append, hears_first, latch_stepped, latch_released, latch_here, latches_pass, latches_still, first_latches}, Seats.{seats_step, seats_turn, seats_dealt, seats_gathered}, Hearing.{same_limit, heard_as_sent}, Histories.{kept, same_history, own_release, quiet, leaves, joins, first_history, others_stay}}}
-use Rattle.pm_board.specs.declared.views.Letter as Letter
+use Rattle.pm_board_words.specs.{declared.views.{SessionLimit.SessionLimit, Offer.Offer, PastChild.PastChild, PostNotes.PostNotes, PostStep.TheVariants.Exit, RosterNotes.RosterNotes, RosterStep.{RosterStep, TheVariants.{Assign, Release}}, Sight.TheVariants.{Unused, Opened, Assigned, Exited, Collected, Gathered}, SlotView.SlotView, RosterView.RosterView, Work.{Work, TheVariants.{Idle, Sees, Inactive, Active, Refused, Attached}}, PostView.PostView, View.{View, TheVariants.{Postmaster, Worker, Spent}}}, Words.{bit, kind_number, kind_of, signal_bit, status_number, exit_step, stage_in, active_in, status_in, FitsWord}, Latch.{latch_place, cancel_place}}
+use Rattle.pm_board.{specs.{Slots.{child_slots, is_slot}, Places.{slot_view, slot_at, is_auxiliary, lost, SlotServes, EndsWell}, Rule.{at_put, put, Phase, unused, opened, offered, running, ended, collected, gathered, child_word, offer_word, word_of, Seen, Does, OfChild, OfLiving, IsPlaced, used_pid, PidsOk, Cell, SlotOk, Agrees, Holds, idle_post}, Gate.{GateOk, gate_of}, Latches.{times_sent, WereMade, latch_at, cancel_at, Latches}, Seats.is_gathered, History.Kept, Told.{MayEnd, Assigns, Loads, Starts, Ends, Looks, Releases, Clears, Compares, post_view, past_child, with_slot, noted_assign, noted_release, noted_look, noted_load, noted_start, noted_exit, assigned_slot, running_slot, exited_slot, dealt_more, next_post, with_post, taken_in, newcomer, new_roster}}, proofs.{Bits.{kind_small, kind_again, active_again, status_read, packed_small, same_exit}, Gates.{uncounted, uncounted_by, gate_moves, ended_counts, once_still, once_offered, once_ended, first_gate_ok}, Moves.{rebased, master_step, worker_step, St}, Passes.lives, Latches.{at_last, reach-more, not_released-append, assign_is_no_release, release_is_other, unreleased_all, each-append, hears_first, latch_stepped, latch_released, latch_here, latches_pass, latches_still, first_latches}, Seats.{seats_step, seats_turn, seats_dealt, seats_gathered}, Hearing.{same_limit, heard_as_sent}, Histories.{kept, same_history, own_release, quiet, leaves, joins, first_history, others_stay}}}
+use Rattle.pm_board_words.specs.declared.views.Letter as Letter
 
 pub grown : (x a y : ℕ) → x + a ≡ y → y < 18446744073709551616 → (x + a) % 2 ^ 64 ≡ y
 grown x a y e h = let l : x + a < 2 ^ 64 = omega arith in mod-eq_of_lt l ∙ e

@@ -1,13 +1,13 @@
 -- What stays of the latches when one slot moves.
-use Rattle.std.proofs.Common.{◌≡◌, ◌≢◌, ℕ, zero, suc, ◌+◌, ◌<◌, ◌≤◌, List, [], ◌∷◌, ◌++◌, length, set, refl, sym, ap, ◌∙◌, subst, ⊎_elim, arith, append-nil, get_or-set_other, ◌==◌, eq-eqb, ne_eqb}
+use Rattle.std.{proofs.{Common.{◌≡◌, ◌≢◌, ℕ, zero, suc, ◌+◌, ◌<◌, ◌≤◌, List, [], ◌∷◌, ◌++◌, length, set, refl, sym, ap, ◌∙◌, subst, ⊎_elim, arith, append-nil, get_or-set_other, ◌==◌, eq-eqb, ne_eqb}, lemmas.{List.{append_assoc, Elements.{Contains-append_left, Contains-append_right, Contains-append_cases}}, Nat.Bits.bit_at-zero}}, specs.{Prelude.{Bool, ◌&&◌, Some, None, Result, Err, slice_index_or}, Int.bit_at, List.{Contains, AllByRecursion}}}
 use mathlib.Core.Logic.{dite}
 use native.Mathlib.Decide.{ℕ_discrete}
-use Rattle.std.{proofs.lemmas.{List.{append_assoc, Elements.{Contains-append_left, Contains-append_right, Contains-append_cases}}, Nat.Bits.bit_at-zero}, specs.{Prelude.{Bool, ◌&&◌, Some, None, Result, Err, slice_index_or}, Int.bit_at, List.{Contains, AllByRecursion}}}
 use Rattle.pm_facts.specs.Numbers.{sum_below}
 use Rattle.pm_supervisor.specs.{pm_exit.declared.child.{Kind.Kind, Status.Status}, declared.Reason.Reason}
 use Rattle.pm_child_life.specs.declared.life.{Attempt.Attempt, Signals.Signals}
 use Rattle.pm_child_life.specs.declared.life.GateNo.TheVariants as gate_no
-use Rattle.pm_board.{specs.{declared.views.{SessionLimit.SessionLimit, Heard.Heard, Offer.Offer, PastChild.PastChild, PostView.PostView, RosterStep.{RosterStep, TheVariants.{Assign, Release, Quit, Ready, Reset, Send}}, RosterView.RosterView, Signal.Signal}, Words.bit, Gate.{Gate, GateAnswers, first_gate, gate_of_steps}, Latch.{latch_pid, signal_number}, Latches.{times_made_on, made_on, CallsIn, LatchesOf, is_send, times_sent, times_given, NotSent, Reaches, ReachesIn, NotReleased, IsAssignedBy, AnsweredBefore, doings, HeardRightly, HearsRightly, OfRunning, OfUnreleased, EachHeard, beside, waiting, times_told, times_made, WereMade, LatchOk, latch_at, cancel_at, Latches}, Rule.{Phase, unused, opened, offered, running, ended, collected, gathered, Cell, put, at_put, no_signals, idle_post}}, proofs.{Counts.count_moves, BoardLaws.sent-append}}
+use Rattle.pm_board_words.specs.{declared.views.{SessionLimit.SessionLimit, Heard.Heard, Offer.Offer, PastChild.PastChild, PostView.PostView, RosterStep.{RosterStep, TheVariants.{Assign, Release, Quit, Ready, Reset, Send}}, RosterView.RosterView, Signal.Signal}, Words.bit, Latch.{latch_pid, signal_number}}
+use Rattle.pm_board.{specs.{Gate.{Gate, GateAnswers, first_gate, gate_of_steps}, Latches.{times_made_on, made_on, CallsIn, LatchesOf, is_send, times_sent, times_given, NotSent, Reaches, ReachesIn, NotReleased, IsAssignedBy, AnsweredBefore, doings, HeardRightly, HearsRightly, OfRunning, OfUnreleased, EachHeard, beside, waiting, times_told, times_made, WereMade, LatchOk, latch_at, cancel_at, Latches}, Rule.{Phase, unused, opened, offered, running, ended, collected, gathered, Cell, put, at_put, no_signals, idle_post}}, proofs.{Counts.count_moves, BoardLaws.sent-append}}
 
 -- lists
 

@@ -1,21 +1,21 @@
 -- Each step at a latch or at the cancels of a slot keeps the rule.
-use Rattle.std.{proofs.{Common.{◌≡◌, ◌≢◌, ℕ, zero, suc, ◌+◌, ◌*◌, ◌/◌, ◌^◌, ◌<◌, ◌≤◌, ◌==◌, ◌⊎◌, inl, inr, ⊎_elim, max, List, [], ◌∷◌, ◌++◌, length, get_or, set, sym, refl, ap, ◌∙◌, subst, arith, length-set, append-nil, get_or-set_other, get_or-set_same, eq-eqb, ne_eqb}, lemmas.{List.{append_cancel_left, Elements.Contains-append_left}, Nat.{or_shr, Bits.{bit_at_or, bit_at-pow_same, bit_at-pow_other, bit_at-lt, bit_at_cat_low, bit_at-zero, and_high_mask}}}}, specs.Int.Bits.or_zero_r}
+use Rattle.std.{proofs.{Common.{◌≡◌, ◌≢◌, ℕ, zero, suc, ◌+◌, ◌*◌, ◌/◌, ◌^◌, ◌<◌, ◌≤◌, ◌==◌, ◌⊎◌, inl, inr, ⊎_elim, max, List, [], ◌∷◌, ◌++◌, length, get_or, set, sym, refl, ap, ◌∙◌, subst, arith, length-set, append-nil, get_or-set_other, get_or-set_same, eq-eqb, ne_eqb}, lemmas.{List.{append_cancel_left, Elements.Contains-append_left}, Nat.{or_shr, Bits.{bit_at_or, bit_at-pow_same, bit_at-pow_other, bit_at-lt, bit_at_cat_low, bit_at-zero, and_high_mask}}}, Math.Bool.or-true}, specs.{Int.{Bits.or_zero_r, bit_at}, Prelude.{Bool, true, false, ◌&&◌, ◌||◌, eqb, is_some, Option, Some, None, bit_or, bit_and}, List.AllByRecursion}}
 use lib.ListN.{get_elem?}
 use lib.Seq.{set-get_or}
 use mathlib.Core.Logic.{dite}
 use mathlib.Core.Option.{none, some}
 use native.Mathlib.Decide.{ℕ_discrete, dec_le}
 use prog.Atomic.{either}
-use Rattle.std.{specs.{Prelude.{Bool, true, false, ◌&&◌, ◌||◌, eqb, is_some, Option, Some, None, bit_or, bit_and}, Int.bit_at, List.AllByRecursion}, proofs.Math.Bool.or-true}
 use Rattle.atomic_table.{specs.Table.{step, Act, keeps, takes, Valid, stepped, carried_after, Allows}, proofs.Lists.{set_here, set_else, exchanged}}
 use Rattle.pm_facts.specs.{Lists.each_more, Numbers.sum_below}
 use Rattle.pm_supervisor.specs.pm_exit.declared.child.Kind.{Kind}
 use Rattle.pm_keys.specs.CancelKey.{cancel_key}
 use Rattle.pm_supervisor.specs.declared.Reason.TheVariants as reason
 use Rattle.pm_child_life.specs.declared.life.Signals.{Signals}
-use Rattle.pm_board.{specs.{Slots.{child_slots, is_slot}, declared.views.{SessionLimit.SessionLimit, Cancel.Cancel, Heard.Heard, Offer.Offer, PastChild.PastChild, PostNotes.PostNotes, RosterStep.{RosterStep, TheVariants.Send}, RosterView.RosterView, Sight.TheVariants.{Unused, Opened, Assigned, Gathered}, Signal.Signal, SlotView.SlotView, Work.{Work, TheVariants.{Idle, Sees, Inactive, Active, Refused, Attached}}, PostView.PostView, View.{View, TheVariants.{Postmaster, Worker}}}, Words.{bit, flag}, Places.{slot_view, slot_at}, Gate.{GateOk, gate_of}, Latch.{latch_place, cancel_place, signal_number, latch_pid, armed_word, stands, quit_of, signals_at, is_crash, is_stop, is_given}, Latches.{times_made_on, made_on, CallsIn, LatchesOf, is_send, is_heard, times_sent, times_given, times_heard, Reaches, ReachesIn, OfUnreleased, doings, HeardRightly, HearsRightly, ArmedFor, OfRunning, EachHeard, HeardBy, beside, waiting, times_told, times_made, WereMade, LatchOk, latch_at, cancel_at, Latches}, Rule.{Phase, unused, opened, offered, running, ended, collected, gathered, Seen, Does, unreleased, Cell, put, at_put, used_pid}, Seats.is_gathered, History.Kept, Told.{Seated, past_child, with_slot, with_sight, with_notes, child_in, after_step, answered, noted_take, noted_heed, noted_latch_look, noted_cancel, Arms, Sends, Takes, Heeds, LooksAtLatch, Cancels}}, proofs.{BoardLaws.sent-append, Bits.bit_small, Counts.count_moves, Moves.{rebased, word_step, word_turn, slot_turn, St}, Gates.{uncounted, uncounted_notes, gate_moves, once_still}, Latches.{no_release, assigned-append, send_is_no_release, sends_nothing, sent_to_other, unreleased_all, unreleased_both, latch_here, heard-more, hears-more, running_map, each-map, cancels_stay, cancelled_more, latches_moved, latches_word, recount, count_same}, Seats.{seats_step, seats_turn, seats_still}, Histories.{kept, same_history, quiet, send_history, others_unsent}, Keeps.{at_phase, owned, see_unused, pids_drop, does_run, does_act, does_back, does_stay}}}
-use Rattle.pm_board.specs.declared.views.Letter as Letter
-use Rattle.pm_board.specs.declared.views.Signal.TheVariants as signal
+use Rattle.pm_board_words.specs.{declared.views.{SessionLimit.SessionLimit, Cancel.Cancel, Heard.Heard, Offer.Offer, PastChild.PastChild, PostNotes.PostNotes, RosterStep.{RosterStep, TheVariants.Send}, RosterView.RosterView, Sight.TheVariants.{Unused, Opened, Assigned, Gathered}, Signal.Signal, SlotView.SlotView, Work.{Work, TheVariants.{Idle, Sees, Inactive, Active, Refused, Attached}}, PostView.PostView, View.{View, TheVariants.{Postmaster, Worker}}}, Words.{bit, flag}, Latch.{latch_place, cancel_place, signal_number, latch_pid, armed_word, stands, quit_of, signals_at, is_crash, is_stop, is_given}}
+use Rattle.pm_board.{specs.{Slots.{child_slots, is_slot}, Places.{slot_view, slot_at}, Gate.{GateOk, gate_of}, Latches.{times_made_on, made_on, CallsIn, LatchesOf, is_send, is_heard, times_sent, times_given, times_heard, Reaches, ReachesIn, OfUnreleased, doings, HeardRightly, HearsRightly, ArmedFor, OfRunning, EachHeard, HeardBy, beside, waiting, times_told, times_made, WereMade, LatchOk, latch_at, cancel_at, Latches}, Rule.{Phase, unused, opened, offered, running, ended, collected, gathered, Seen, Does, unreleased, Cell, put, at_put, used_pid}, Seats.is_gathered, History.Kept, Told.{Seated, past_child, with_slot, with_sight, with_notes, child_in, after_step, answered, noted_take, noted_heed, noted_latch_look, noted_cancel, Arms, Sends, Takes, Heeds, LooksAtLatch, Cancels}}, proofs.{BoardLaws.sent-append, Bits.bit_small, Counts.count_moves, Moves.{rebased, word_step, word_turn, slot_turn, St}, Gates.{uncounted, uncounted_notes, gate_moves, once_still}, Latches.{no_release, assigned-append, send_is_no_release, sends_nothing, sent_to_other, unreleased_all, unreleased_both, latch_here, heard-more, hears-more, running_map, each-map, cancels_stay, cancelled_more, latches_moved, latches_word, recount, count_same}, Seats.{seats_step, seats_turn, seats_still}, Histories.{kept, same_history, quiet, send_history, others_unsent}, Keeps.{at_phase, owned, see_unused, pids_drop, does_run, does_act, does_back, does_stay}}}
+use Rattle.pm_board_words.specs.declared.views.Letter as Letter
+use Rattle.pm_board_words.specs.declared.views.Signal.TheVariants as signal
 
 -- one signal of a word
 

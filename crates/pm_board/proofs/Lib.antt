@@ -12,4 +12,8 @@ pub mod Keeps
 pub mod Gating
 pub mod Latching
 pub mod Steps
+pub mod Ties
+pub mod Homing
+pub mod HomeSteps
 pub mod BoardLaws
+mod Sharing

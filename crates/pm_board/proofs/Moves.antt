@@ -1,13 +1,13 @@
 -- What stays of the rule when one slot and one seat move.
-use Rattle.std.proofs.Common.{◌≡◌, ◌≢◌, ℕ, ◌+◌, ◌*◌, ◌<◌, ◌≤◌, List, [], length, get_or, set, sym, refl, ap, ◌∙◌, subst, ⊎_elim, arith, length-set, get_or-set_other, get_or-set_same}
+use Rattle.std.{proofs.Common.{◌≡◌, ◌≢◌, ℕ, ◌+◌, ◌*◌, ◌<◌, ◌≤◌, List, [], length, get_or, set, sym, refl, ap, ◌∙◌, subst, ⊎_elim, arith, length-set, get_or-set_other, get_or-set_same}, specs.Prelude.Option}
 use mathlib.Core.Option.{some, some-ne-none, some-injective}
 use mathlib.Core.Option as maybe
 use lib.ListN.{get_elem?}
 use lib.Seq.{set-get_or}
-use Rattle.std.specs.Prelude.{Option}
 use Rattle.atomic_table.{specs.Table.State, proofs.Lists.at_set}
-use Rattle.pm_board.specs.{Slots.child_slots, declared.views.{Sight.TheVariants.Unused, SlotView.SlotView, RosterNotes.RosterNotes, RosterStep.RosterStep, RosterView.RosterView, PostView.PostView, View.{View, TheVariants.{Postmaster, Worker, Spent}}}, Places.{slot_view, slot_at}, Rule.{put, at_put, Phase, PidsOk, Cell, SlotOk, OfChild, IsPlaced, Agrees, Holds, idle_post}, Told.{with_slot, after_step}}
-use Rattle.pm_board.specs.declared.views.Letter as Letter
+use Rattle.pm_board_words.specs.declared.views.{Sight.TheVariants.Unused, SlotView.SlotView, RosterNotes.RosterNotes, RosterStep.RosterStep, RosterView.RosterView, PostView.PostView, View.{View, TheVariants.{Postmaster, Worker, Spent}}}
+use Rattle.pm_board.specs.{Slots.child_slots, Places.{slot_view, slot_at}, Rule.{put, at_put, Phase, PidsOk, Cell, SlotOk, OfChild, IsPlaced, Agrees, Holds, idle_post}, Told.{with_slot, after_step}}
+use Rattle.pm_board_words.specs.declared.views.Letter as Letter
 
 get_or-set_at : (l : List ℕ) (i j a : ℕ) → j ≡ i → i < length l → get_or (set l i a) j 0 ≡ a
 get_or-set_at l i j a e h = ap (λ (k : ℕ). get_or (set l i a) k 0) e ∙ get_or-set_same l i a 0 h

@@ -1,14 +1,14 @@
 -- How the history follows the steps at the gate.
-use Rattle.std.proofs.Common.{◌≡◌, ◌≢◌, ℕ, zero, suc, ◌+◌, ◌<◌, ◌≤◌, List, [], ◌∷◌, ◌++◌, length, map, append-nil, refl, sym, ap, ◌∙◌, subst, arith, ne_eqb, eq-eqb}
+use Rattle.std.{proofs.Common.{◌≡◌, ◌≢◌, ℕ, zero, suc, ◌+◌, ◌<◌, ◌≤◌, List, [], ◌∷◌, ◌++◌, length, map, append-nil, refl, sym, ap, ◌∙◌, subst, arith, ne_eqb, eq-eqb}, specs.{Prelude.{Bool, true, false, ◌&&◌, if◌then◌else◌, Option, Some, None}, List.AllByRecursion}}
 use mathlib.Core.Logic.{dite}
 use native.Mathlib.Decide.{ℕ_discrete}
-use Rattle.std.specs.{Prelude.{Bool, true, false, ◌&&◌, if◌then◌else◌, Option, Some, None}, List.AllByRecursion}
 use Rattle.atomic_table.specs.Table.{State}
 use Rattle.pm_facts.specs.Numbers.{sum_below}
 use Rattle.pm_supervisor.{specs.{pm_exit.declared.child.Kind.Kind, declared.Reason.Reason, Children.{Child, is_session, is_startup_child, child_of, without, marked, one_if, count_of, attached_sessions}, Supervisor.Shared, Shared.{SharedEvent, Notice, Open, Reset, Allows, after_shared}}, proofs.CountLaws.at_most_one}
-use Rattle.pm_board.{specs.{Slots.child_slots, declared.views.{SessionLimit.SessionLimit, Offer.Offer, PostStep.PostStep, RosterStep.RosterStep, RosterView.RosterView, Work.{Work, TheVariants.{Idle, Sees, Inactive, Active, Refused, Attached}}, View.View}, Words.bit, Gate.{attached, gate_of}, Rule.{Phase, unused, opened, offered, running, ended, collected, gathered, Does, Cell, Holds, put, at_put}, Told.after_step, History.{KeepsPlaces, goes_on, supervisor_event, worker_event, leave_of, event_of, worker_step, living, is_attached, shown_child, ShowsChild, Shows, OwnPart, pid_and_kind, History}}, proofs.Histories.{child_hit, child_miss, without_hit, without_miss, without_other, Once, none_in, once_left, own_step, own_worker, own_part, other_part, no_part, shows_moves, pids_apart}}
-use Rattle.pm_board.specs.declared.views.Letter as Letter
-use Rattle.pm_board.specs.declared.views.RosterStep.TheVariants as step
+use Rattle.pm_board_words.specs.{declared.views.{SessionLimit.SessionLimit, Offer.Offer, PostStep.PostStep, RosterStep.RosterStep, RosterView.RosterView, Work.{Work, TheVariants.{Idle, Sees, Inactive, Active, Refused, Attached}}, View.View}, Words.bit}
+use Rattle.pm_board.{specs.{Slots.child_slots, Gate.{attached, gate_of}, Rule.{Phase, unused, opened, offered, running, ended, collected, gathered, Does, Cell, Holds, put, at_put}, Told.after_step, History.{KeepsPlaces, goes_on, supervisor_event, worker_event, leave_of, event_of, worker_step, living, is_attached, shown_child, ShowsChild, Shows, OwnPart, pid_and_kind, History}}, proofs.Histories.{child_hit, child_miss, without_hit, without_miss, without_other, Once, none_in, once_left, own_step, own_worker, own_part, other_part, no_part, shows_moves, pids_apart}}
+use Rattle.pm_board_words.specs.declared.views.Letter as Letter
+use Rattle.pm_board_words.specs.declared.views.RosterStep.TheVariants as step
 
 -- lists of children, of which one attaches or detaches
 

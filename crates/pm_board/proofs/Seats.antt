@@ -1,12 +1,12 @@
 -- What stays of the seats at each step.
-use Rattle.std.proofs.Common.{◌≡◌, ◌≢◌, ℕ, zero, suc, ◌+◌, ◌<◌, ◌≤◌, List, [], ◌∷◌, ◌++◌, length, set, refl, sym, ap, ◌∙◌, subst, arith, length-set, get_or-set_same, get_or-set_other}
+use Rattle.std.{proofs.Common.{◌≡◌, ◌≢◌, ℕ, zero, suc, ◌+◌, ◌<◌, ◌≤◌, List, [], ◌∷◌, ◌++◌, length, set, refl, sym, ap, ◌∙◌, subst, arith, length-set, get_or-set_same, get_or-set_other}, specs.Prelude.{true, false}}
 use mathlib.Core.Logic.{dite}
 use mathlib.Core.Option.{some, some-injective}
 use native.Mathlib.Decide.{ℕ_discrete}
 use lib.ListN.{get_elem?}
-use Rattle.std.specs.Prelude.{true, false}
 use Rattle.atomic_table.proofs.Lists.{at_longer, at_last, set_else}
-use Rattle.pm_board.specs.{declared.views.{PostView.PostView, RosterNotes.RosterNotes, RosterView.RosterView, Sight.{Sight, TheVariants.{Unused, Gathered}}, SlotView.SlotView, View.{View, TheVariants.{Postmaster, Worker, Spent}}}, Places.{slot_view, slot_at}, Rule.{Phase, Cell, put, at_put, idle_post}, Told.{with_slot, with_post}, Seats.{is_gathered, HasSeat, held, taken, Seats}}
+use Rattle.pm_board_words.specs.declared.views.{PostView.PostView, RosterNotes.RosterNotes, RosterView.RosterView, Sight.{Sight, TheVariants.{Unused, Gathered}}, SlotView.SlotView, View.{View, TheVariants.{Postmaster, Worker, Spent}}}
+use Rattle.pm_board.specs.{Places.{slot_view, slot_at}, Rule.{Phase, Cell, put, at_put, idle_post}, Told.{with_slot, with_post}, Seats.{is_gathered, HasSeat, held, taken, Seats}}
 
 -- a view that was replaced is there
 set_at : {A : Type 0} (l : List A) (i : ℕ) (a b : A) → get_elem? l i ≡ some a → get_elem? (set l i b) i ≡ some b

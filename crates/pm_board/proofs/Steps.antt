@@ -1,16 +1,17 @@
 -- The steps, at a seat that is known by equations.
-use Rattle.std.proofs.{Common.{◌≡◌, ℕ, zero, suc, ◌+◌, ◌-◌, ◌*◌, ◌%◌, ◌^◌, ◌<◌, ◌≤◌, ◌≢◌, ◌⊎◌, inl, inr, ⊎_elim, List, [], ◌∷◌, ◌++◌, length, get_or, set, sym, refl, ap, ◌∙◌, subst, arith, length-set, get_or-set_same, get_or-set_other}, lemmas.List.length-replicate}
+use Rattle.std.{proofs.{Common.{◌≡◌, ℕ, zero, suc, ◌+◌, ◌-◌, ◌*◌, ◌%◌, ◌^◌, ◌<◌, ◌≤◌, ◌≢◌, ◌⊎◌, inl, inr, ⊎_elim, List, [], ◌∷◌, ◌++◌, length, get_or, set, sym, refl, ap, ◌∙◌, subst, arith, length-set, get_or-set_same, get_or-set_other}, lemmas.{List.length-replicate, Option.same_Some}}, specs.Prelude.{Bool, true, false, Option, Some, None, Result, Ok, Err, replicate, slice_get, eqb, max, bit_or, bit_and}}
 use mathlib.Core.Option.{none}
 use mathlib.Core.Logic.{dite}
 use native.Mathlib.Decide.{ℕ_discrete}
-use Rattle.std.{specs.Prelude.{Bool, true, false, Option, Some, None, Result, Ok, Err, replicate, slice_get, eqb, max, bit_or, bit_and}, proofs.lemmas.Option.same_Some}
 use prog.Atomic.{either}
 use Rattle.atomic_table.specs.{Table.{step, rest, opening, Allows, Joins, Splits}, Seated.TableId}
 use Rattle.pm_facts.specs.Lists.{set_set, same_everywhere}
 use Rattle.pm_supervisor.specs.{pm_exit.declared.child.{Kind.Kind, Status.Status}, declared.Reason.Reason, Children.{is_session, is_dead_end}}
 use Rattle.pm_child_life.specs.{declared.life.GateNo.{GateNo}, Life.attempt}
-use Rattle.pm_board.{specs.{Slots.{all_slots, child_slots}, declared.views.{SessionLimit.SessionLimit, Cancel.Cancel, Offer.Offer, PastChild.PastChild, PostNotes.PostNotes, RosterNotes.RosterNotes, Sight.{Sight, TheVariants.{Unused, Opened, Assigned, Exited, Collected}}, Signal.Signal, SlotView.SlotView, RosterView.RosterView, Work.{Work, TheVariants.{Idle, Sees, Inactive, Active, Refused, Attached}}, PostView.PostView, View.{View, TheVariants.{Postmaster, Worker, Spent}}}, Words.{exit_step, stage_in, active_in, kind_in, status_in, pid_in, status_number, bit}, Places.{slot_view, slot_at, is_auxiliary, lost, SlotServes, EndsWell, is_used, used_in}, Children.children_of, Gate.{place_of, gate_answer}, Latch.{latch_place, cancel_place, armed_word, signal_number}, Rule.{child_word, offer_word}, History.Kept, Told.{Seated, MayEnd, roster_of, post_of, post_view, with_notes, child_in, past_child, with_slot, with_sight, assigned_slot, running_slot, exited_slot, noted_assign, noted_release, noted_look, noted_exit, Arms, Sends, Takes, Heeds, LooksAtLatch, Cancels, Assigns, Loads, Starts, Ends, Looks, Releases, Clears, Compares, Marks, Unmarks, Tries, BacksOut, Detaches, Quits, Readies, Resets, tried, tried_by, MayQuit, quit_step, ready_step, new_gate, reposted, taken_in, dealt_more, next_post, newcomer}, Models.{HoldsMail, MayOpen, MayReset, RunsKind, RunsPid, IsWholePost, IsWholeRoster, SlotBecame}}, proofs.{Bits.{pid_again, kind_read, status_read, active_again}, Children.children_same, BoardLaws.bit_small}}
-use Rattle.pm_board.specs.declared.views.Letter as Letter
+use Rattle.pm_board_words.specs.{declared.views.{SessionLimit.SessionLimit, Cancel.Cancel, Offer.Offer, PastChild.PastChild, PostNotes.PostNotes, RosterNotes.RosterNotes, Sight.{Sight, TheVariants.{Unused, Opened, Assigned, Exited, Collected}}, Signal.Signal, SlotView.SlotView, RosterView.RosterView, Work.{Work, TheVariants.{Idle, Sees, Inactive, Active, Refused, Attached}}, PostView.PostView, View.{View, TheVariants.{Postmaster, Worker, Spent}}}, Words.{exit_step, stage_in, active_in, kind_in, status_in, pid_in, status_number, bit}, GateWords.{place_of, gate_answer, MayQuit, quit_step, ready_step, new_gate}, Latch.{latch_place, cancel_place, armed_word, signal_number}}
+use Rattle.pm_board.{specs.{Slots.{all_slots, child_slots}, Places.{slot_view, slot_at, is_auxiliary, lost, SlotServes, EndsWell, is_used, used_in}, Children.children_of, Rule.{child_word, offer_word}, History.Kept, Told.{Seated, MayEnd, roster_of, post_of, post_view, with_notes, child_in, past_child, with_slot, with_sight, assigned_slot, running_slot, exited_slot, noted_assign, noted_release, noted_look, noted_exit, Arms, Sends, Takes, Heeds, LooksAtLatch, Cancels, Assigns, Loads, Starts, Ends, Looks, Releases, Clears, Compares, Marks, Unmarks, Tries, BacksOut, Detaches, Quits, Readies, Resets, tried, tried_by, reposted, taken_in, dealt_more, next_post, newcomer}, Models.{HoldsMail, MayOpen, MayReset, RunsKind, RunsPid, IsWholePost, IsWholeRoster, SlotBecame, LookMet}, declared.roster.Look.Look}, proofs.{Bits.{pid_again, kind_read, status_read, active_again}, Children.children_same, BoardLaws.bit_small}}
+use Rattle.pm_board_words.specs.declared.views.Letter as Letter
+use Rattle.pm_board.specs.declared.roster.Look.TheVariants as look
 use Rattle.pm_keys.specs.CancelKey.{cancel_key}
 use Rattle.pm_board.proofs.Keeps as keep
 use Rattle.pm_board.proofs.Gating as gate
@@ -292,6 +293,18 @@ module _ {J D : Type 0} where
       (λ three. sealed b t t' u g cs q me' (with_slot d k x notes) e f w few (h.0 three).0 (length-set d.slots k x ∙ l) (used ∙ sym (used_same d k x notes (Assigned o) near sight refl)) now noticed (children_same cs d k x notes (Assigned o) near sight refl all))
       (λ no_. sealed b t t' u g cs q me' (with_slot d k y notes) e f w few (h.1 no_) (length-set d.slots k y ∙ l) (used ∙ sym (used_same d k y notes (Assigned o) near sight refl)) now noticed (children_same cs d k y notes (Assigned o) near sight refl all))
 
+  -- what a look tells, by the word that it met
+  pub looked_met : (n k word : ℕ) (found : Look) (me me' : Seated J D) (d : RosterView D) (o : Offer D) → me ≡ (Postmaster d, []) → k < length d.slots → (slot_at d k).sight ≡ Assigned o → Looks (step n k 0 0 none) me word me'
+      → ((stage_in word ≡ 3) × (found ≡ look.Exited (status_in word) (active_in word))) ⊎ ((stage_in word ≢ 3) × (found ≡ look.Running)) → LookMet k o word found d (roster_of me'.0)
+  looked_met n k word found me me' d o is near sight did tells =
+      let h = looked_as n k word me me' d o is sight did in
+      ⊎_elim
+      (λ (f : (stage_in word ≡ 3) × (found ≡ look.Exited (status_in word) (active_in word))).
+      let t = h.0 f.0 in subst (λ (z : Look). LookMet k o word z d (roster_of me'.0)) (sym f.1) (t.1, became d (roster_of me'.0) k _ _ near (ap (λ (m : Seated J D). roster_of m.0) t.0), t.2))
+      (λ (f : (stage_in word ≢ 3) × (found ≡ look.Running)).
+      subst (λ (z : Look). LookMet k o word z d (roster_of me'.0)) (sym f.1) (f.0, became d (roster_of me'.0) k _ _ near (ap (λ (m : Seated J D). roster_of m.0) (h.1 f.0))))
+      tells
+
   -- a look leaves the children that the supervisor sees
   pub looked_children : (n k word : ℕ) (me me' : Seated J D) (d : RosterView D) (o : Offer D) → me ≡ (Postmaster d, []) → k < length d.slots → (slot_at d k).sight ≡ Assigned o → Looks (step n k 0 0 none) me word me' → children_of (roster_of me'.0).slots ≡ children_of d.slots
   looked_children n k word me me' d o is near sight did = let h = looked_as n k word me me' d o is sight did in let notes : RosterNotes = noted_look d.notes word in
@@ -327,7 +340,7 @@ one_less a b c e h = omega arith
 
 -- each post has its number, and one more
 module _ {A : Type 0} where
-  last_or_before : (l : List A) (a b : A) (k : ℕ) → slice_get (l ++ a ∷ []) k ≡ Some b → (slice_get l k ≡ Some b) ⊎ ((k ≡ length l) × (a ≡ b))
+  pub last_or_before : (l : List A) (a b : A) (k : ℕ) → slice_get (l ++ a ∷ []) k ≡ Some b → (slice_get l k ≡ Some b) ⊎ ((k ≡ length l) × (a ≡ b))
   last_or_before [] a b zero e = inr (refl, same_Some a b e)
   last_or_before [] a b (suc k) e = absurd (cc)
   last_or_before (x ∷ xs) a b zero e = inl e

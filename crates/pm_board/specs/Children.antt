@@ -1,7 +1,7 @@
 -- The children that the supervisor sees, slot by slot.
 use Rattle.std.specs.Prelude.{◌≡◌, ℕ, ◌+◌, ◌<◌, ◌≤◌, Bool, true, List, [], ◌∷◌, Option, Some, None, length, map, slice_index_or, slice_set}
 use Rattle.pm_exit.specs.declared.child.Kind.{Kind}
-use Rattle.pm_board.specs.{declared.views.{Sight.{Sight, TheVariants.{Unused, Opened, Assigned, Exited, Collected, Gathered}}, SlotView.SlotView}, Words.bit}
+use Rattle.pm_board_words.specs.{declared.views.{Sight.{Sight, TheVariants.{Unused, Opened, Assigned, Exited, Collected, Gathered}}, SlotView.SlotView}, Words.bit}
 
 module _ {D : Type 0} where
   -- pid and kind of the child that the supervisor sees there, if it sees one

@@ -3,7 +3,8 @@ use Rattle.std.specs.{Prelude.{◌≡◌, ℕ, ◌<◌, ◌⊎◌, true, List, l
 use mathlib.Core.Option.{some}
 use lib.ListN.{get_elem?}
 use Rattle.pm_keys.specs.CancelKey.{cancel_key}
-use Rattle.pm_board.specs.{declared.views.{Cancel.Cancel, PastChild.PastChild, PostNotes.PostNotes, PostView.PostView, RosterView.RosterView, Sight.TheVariants.Gathered, View.{View, TheVariants.Worker}}, Places.slot_at, Latches.{EachHeard, HeardRightly, doings_of}, Seats.is_gathered}
+use Rattle.pm_board_words.specs.declared.views.{Cancel.Cancel, PastChild.PastChild, PostNotes.PostNotes, PostView.PostView, RosterView.RosterView, Sight.TheVariants.Gathered, View.{View, TheVariants.Worker}}
+use Rattle.pm_board.specs.{Places.slot_at, Latches.{EachHeard, HeardRightly, doings_of}, Seats.is_gathered}
 
 -- a cancel for this pid, that was made with its key under the seed of that call
 abbrev pub IsCancelFor : ℕ → Cancel → Type 0

@@ -2,10 +2,11 @@
 use Rattle.std.specs.{Prelude.{◌≡◌, ℕ, ◌<◌, Bool, true, false, ◌==◌, if◌then◌else◌, List, [], ◌∷◌, ◌++◌, map, Option, Some, None, length, slice_index_or}, List.flat_map}
 use Rattle.atomic_table.specs.Table.{State}
 use Rattle.pm_supervisor.specs.{pm_exit.declared.child.Kind.Kind, Children.{Child, child_of, without}, Supervisor.{Shared, first}, Shared.{SharedEvent, IsReserve, Join, Attach, Touch, Detach, Leave, Notice, Open, Reset, Allows, after_shared}}
-use Rattle.pm_board.specs.{Slots.child_slots, declared.views.{SessionLimit.SessionLimit, Offer.Offer, PastChild.PastChild, RosterStep.RosterStep, PostStep.PostStep, RosterView.RosterView, Work.{Work, TheVariants.{Idle, Sees, Inactive, Active, Refused, Attached}}, PostView.PostView, View.View}, Gate.{Gate, GateOk, first_gate, gate_of, gate_of_steps}, Latches.Latches, Seats.Seats, Rule.{Phase, unused, opened, offered, running, ended, collected, gathered, Cell, Holds}}
-use Rattle.pm_board.specs.declared.views.Letter as Letter
-use Rattle.pm_board.specs.declared.views.RosterStep.TheVariants as step
-use Rattle.pm_board.specs.declared.views.PostStep.TheVariants as post_step
+use Rattle.pm_board_words.specs.declared.views.{SessionLimit.SessionLimit, Offer.Offer, PastChild.PastChild, RosterStep.RosterStep, PostStep.PostStep, RosterView.RosterView, Work.{Work, TheVariants.{Idle, Sees, Inactive, Active, Refused, Attached}}, PostView.PostView, View.View}
+use Rattle.pm_board.specs.{Slots.child_slots, Gate.{Gate, GateOk, first_gate, gate_of, gate_of_steps}, Latches.Latches, Seats.Seats, Rule.{Phase, unused, opened, offered, running, ended, collected, gathered, Cell, Holds}}
+use Rattle.pm_board_words.specs.declared.views.Letter as Letter
+use Rattle.pm_board_words.specs.declared.views.RosterStep.TheVariants as step
+use Rattle.pm_board_words.specs.declared.views.PostStep.TheVariants as post_step
 
 -- an event, and the slot whose word it was made on
 pub record Entry : Type 0 where

@@ -5,7 +5,8 @@ use Rattle.pm_supervisor.specs.{pm_exit.declared.child.Kind.Kind, declared.Reaso
 use Rattle.pm_keys.specs.CancelKey.{cancel_key}
 use Rattle.pm_child_life.specs.declared.life.GateNo.TheVariants as gate_no
 use Rattle.pm_child_life.specs.declared.life.{Attempt.Attempt, Signals.Signals}
-use Rattle.pm_board.specs.{declared.views.{SessionLimit.SessionLimit, Cancel.Cancel, Heard.Heard, Offer.Offer, PastChild.PastChild, RosterStep.{RosterStep, TheVariants.{Assign, Release, Quit, Ready, Reset, Send}}, RosterView.RosterView}, Words.bit, Gate.{GateAnswers, first_gate, gate_of_steps}, Latch.{latch_place, cancel_place, signal_number, latch_pid, is_given}, Rule.{Phase, unused, opened, offered, running, ended, collected, gathered, Cell}}
+use Rattle.pm_board_words.specs.{declared.views.{SessionLimit.SessionLimit, Cancel.Cancel, Heard.Heard, Offer.Offer, PastChild.PastChild, RosterStep.{RosterStep, TheVariants.{Assign, Release, Quit, Ready, Reset, Send}}, RosterView.RosterView}, Words.bit, Latch.{latch_place, cancel_place, signal_number, latch_pid, is_given}}
+use Rattle.pm_board.specs.{Gate.{GateAnswers, first_gate, gate_of_steps}, Rule.{Phase, unused, opened, offered, running, ended, collected, gathered, Cell}}
 
 -- a step is a send of the signal of this number to this pid
 abbrev pub is_send : ℕ → ℕ → RosterStep → Bool

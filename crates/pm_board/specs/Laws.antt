@@ -1,11 +1,15 @@
 -- The laws of the board, one for each function of `laws.rt`, whose contract it is.
-use Rattle.std.specs.Prelude.{◌≡◌, ℕ, ◌<◌, ◌≤◌, ◌⊎◌, Bool, true, false, Option, None, Some, Ok, List, [], ◌∷◌, ◌++◌, map, length, slice_index_or}
+use Rattle.std.specs.Prelude.{◌≡◌, ℕ, ◌<◌, ◌≤◌, ◌⊎◌, Bool, true, false, Option, None, Some, Ok, List, [], ◌∷◌, ◌++◌, map, length, slice_index, slice_index_or}
 use mathlib.Core.Option.{some}
 use lib.ListN.{get_elem?}
 use Rattle.atomic_table.specs.Table.{State}
 use Rattle.pm_supervisor.specs.{Supervisor.Shared, Shared.{IsKept, Attach, Allows}, Children.{is_dead_end, is_session}}
-use Rattle.pm_board.specs.{Slots.child_slots, Gate.{gate_answer, reserve_by}, declared.views.{SessionLimit.SessionLimit, Offer.Offer, PastChild.PastChild, RosterView.RosterView, Work.TheVariants.{Idle, Active}, PostView.PostView, View.{View, TheVariants.{Postmaster, Worker}}}, Places.{slot_at, used_in}, Heard.{WasMade, HeardAsSent}, Latches.{HeardRightly, EachHeard, HeardBy, doings_of, Reaches, latch_at, cancel_at, times_made_on}, Told.child_in, History.{Entry, Kept, of_supervisor, events_of, of_worker, worker_step}}
-use Rattle.pm_board.specs.declared.views.Letter as Letter
+use Rattle.pm_board_words.specs.{GateWords.{gate_answer, reserve_by}, declared.views.{SessionLimit.SessionLimit, Offer.Offer, PastChild.PastChild, RosterView.RosterView, Work.TheVariants.{Idle, Active, Attached}, PostView.PostView, View.{View, TheVariants.{Postmaster, Worker}}}}
+use Rattle.pm_board.specs.{Ties.Tied, Slots.child_slots, Places.{slot_at, used_in}, Heard.{WasMade, HeardAsSent}, Latches.{HeardRightly, EachHeard, HeardBy, doings_of, Reaches, latch_at, cancel_at, times_made_on}, Told.child_in, History.{Entry, Kept, of_supervisor, events_of, of_worker, worker_step}}
+use Rattle.pm_halves.specs.Halves.{firsts, seconds}
+use Rattle.pm_board_home.specs.{declared.views.HomeView.HomeView, Views.KeptBy}
+use Rattle.pm_board_home.specs.declared.home.Home as Home
+use Rattle.pm_board_words.specs.declared.views.Letter as Letter
 
 module _ {J D : Type 0} (letter : Letter.Ghosts J D) where
   -- the events that have led to a state of the board, and what they leave
@@ -74,3 +78,14 @@ module _ {J D : Type 0} (letter : Letter.Ghosts J D) where
     pub gathered :
         (limit : SessionLimit) (s : State (Option J) (View D)) → Kept letter limit s → (master : ℕ) (d : RosterView D)
         → get_elem? s.views master ≡ some (Postmaster d) → HeardAsSent d
+
+module _ {J D H W : Type 0} (letter : Letter.Ghosts J D) (home : Home.Ghosts H W) where
+  -- Who has what lies at the board's home is the supervisor, or a worker whose child is attached in the gate's generation. In a worker's
+  -- hand it is of that generation, and at home while the supervisor lends it.
+  pub record LendsRightly : Type 0 where
+    pub in_hand : (limit : SessionLimit) (l : State (Option J) (View D)) (s : State (Option H) (HomeView W)) (views : List (View D × HomeView W)) → Kept letter limit l → KeptBy home.rule s → l.views ≡ firsts views → s.views ≡ seconds views → Tied home views
+        → (desk id k : ℕ) (d : RosterView D) (w : PostView D) (y u : HomeView W) → get_elem? views desk ≡ some (Postmaster d, y) → get_elem? views id ≡ some (Worker k w, u) → home.has u.knows ≡ true
+        → (home.stamp u.knows ≡ d.generation) × ((o : Offer D) × (w.work ≡ Attached o d.generation))
+    pub at_home : (s : State (Option H) (HomeView W)) (views : List (View D × HomeView W)) → KeptBy home.rule s → s.views ≡ seconds views → Tied home views
+        → (desk : ℕ) (d : RosterView D) (y : HomeView W) → get_elem? views desk ≡ some (Postmaster d, y) → home.lends y.knows ≡ true → slice_index s.words 0 ≡ 0
+        → (x : H) × (get_elem? s.homes 0 ≡ some (some (Some x))) × (home.stamp_of x ≡ d.generation)

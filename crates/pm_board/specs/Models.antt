@@ -1,23 +1,33 @@
 -- What contracts see of a roster and of a post, and what their calls tell.
-use Rattle.std.specs.Prelude.{◌≡◌, ◌≢◌, ℕ, ◌+◌, ◌*◌, ◌<◌, ◌≤◌, ◌==◌, ◌++◌, Bool, false, List, [], ◌∷◌, Option, None, Some, Result, MatchOption, length, slice_get}
-use Rattle.atomic_table.specs.Seated.{TableId}
+use Rattle.std.specs.Prelude.{◌≡◌, ◌≢◌, ℕ, ◌+◌, ◌*◌, ◌<◌, ◌≤◌, ◌==◌, ◌++◌, Bool, true, false, List, [], ◌∷◌, Option, None, Some, Result, MatchOption, length, slice_get}
+use Rattle.atomic_table.specs.{Table.Me, Seated.TableId}
+use Rattle.pm_board_home.specs.{declared.views.HomeView.HomeView, Views.{no_takes, with_knows, dealt_by}}
+use Rattle.pm_board_home.specs.declared.home.Home as Home
+use Rattle.pm_halves.specs.Sitting.{Sitting}
 use Rattle.pm_supervisor.specs.{pm_exit.declared.child.{Kind.Kind, Status.Status}, declared.Reason.Reason, Children.{is_dead_end, is_startup_child}}
 use Rattle.pm_child_life.specs.declared.life.{Attempt.Attempt, Signals.Signals}
-use Rattle.pm_board.specs.{Slots.child_slots, declared.{views.{SessionLimit.SessionLimit, Cancel.Cancel, Offer.Offer, RosterNotes.RosterNotes, RosterStep.{RosterStep, TheVariants.Send}, Sight.TheVariants.{Assigned, Exited, Gathered}, Signal.Signal, SlotView.SlotView, RosterView.RosterView, Work.{Work, TheVariants.{Idle, Sees, Inactive, Active, Refused, Attached}}, PostView.PostView, View.TheVariants.{Postmaster, Worker}}, roster.{Look.Look, Released.Released}, post.Started.Started}, Words.stage_in, Places.{slot_at, slot_view, used_in, EndsWell}, Children.children_of, Gate.{gate_answer, generation_in}, Latch.{latch_pid, signals_at}, Rule.{child_word, offer_word, idle_post}, Told.{Seated, MayEnd, roster_of, post_of, with_slot, with_post, assigned_slot, running_slot, exited_slot, released_slot, past_child, noted_assign, noted_release, noted_load, noted_start, noted_exit, noted_look, post_view, with_work, tried, detached, after_step, child_in, with_notes, noted_take, noted_heed, noted_latch_look, noted_cancel}}
-use Rattle.pm_board.specs.declared.views.Letter as Letter
+use Rattle.pm_board_words.specs.{declared.views.{SessionLimit.SessionLimit, Cancel.Cancel, Offer.Offer, RosterNotes.RosterNotes, RosterStep.{RosterStep, TheVariants.Send}, Sight.TheVariants.{Assigned, Exited, Gathered}, Signal.Signal, SlotView.SlotView, RosterView.RosterView, Work.{Work, TheVariants.{Idle, Sees, Inactive, Active, Refused, Attached}}, PostView.PostView, View.{View, TheVariants.{Postmaster, Worker}}}, Words.stage_in, GateWords.{gate_answer, generation_in}, Latch.{latch_pid, signals_at}}
+use Rattle.pm_board.specs.{Slots.child_slots, declared.{roster.{Look.Look, Released.Released}, post.Started.Started}, Places.{slot_at, slot_view, used_in, EndsWell}, Children.children_of, Ties.{HasHome, HasTakenHome}, Rule.{child_word, offer_word, idle_post}, Told.{Seated, MayEnd, roster_of, new_roster, post_of, with_slot, with_post, assigned_slot, running_slot, exited_slot, released_slot, past_child, noted_assign, noted_release, noted_load, noted_start, noted_exit, noted_look, post_view, with_work, tried, detached, after_step, child_in, with_notes, noted_take, noted_heed, noted_latch_look, noted_cancel}}
+use Rattle.pm_board_words.specs.declared.views.Letter as Letter
 use Rattle.pm_board.specs.declared.roster.Look.TheVariants as look
 use Rattle.pm_board.specs.declared.post.Started.TheVariants as started
 
--- which board it is, and what the supervisor knows
-pub record RosterModel (D : Type 0) : Type 0 where
+-- which board it is, and what the supervisor knows of it and of its home
+pub record RosterModel (D W : Type 0) : Type 0 where
   pub table : TableId
   pub knows : RosterView D
+  pub home : HomeView W
 
--- which board it is, which slot, and what the worker knows
-pub record PostModel (D : Type 0) : Type 0 where
+-- which board it is, which slot, and what the worker knows of it and of its home
+pub record PostOf (D W : Type 0) : Type 0 where
   pub table : TableId
   pub slot : ℕ
   pub knows : PostView D
+  pub home : HomeView W
+
+-- of a board with nothing at its home
+abbrev pub PostModel : Type 0 → Type 0
+PostModel D = PostOf D Bool
 
 -- a worker holds the mail slot exactly while it runs a child
 abbrev pub HoldsMail : {J D : Type 0} → ℕ → Work D → List (ℕ × Option J) → Type 0
@@ -64,6 +74,22 @@ module _ {J D : Type 0} where
       × HoldsMail k (post_of me.0).work me.1 × RunsKind kind (post_of me.0).work × (limit ≡ (post_of me.0).notes.session_limit)
       × RunsPid pid (post_of me.0).work × (table.slots ≤ 407)
 
+module _ {J D H W : Type 0} (home : Home.Ghosts H W) where
+  -- The roster takes what lies at the board's home by the number of posts that it has made, and its seat there is the supervisor's
+  abbrev pub IsRosterHome : ℕ → Seated J D → Me (Option H) (HomeView W) → Type 0
+  IsRosterHome dealt me more = (dealt ≡ (roster_of me.0).dealt) × HasHome home dealt more × (home.leads more.0.knows ≡ true)
+
+module _ {D H W : Type 0} (home : Home.Ghosts H W) where
+  -- what a take tells a worker whose child is attached
+  abbrev pub HasTakenAttached : Work D → Option H → HomeView W → HomeView W → Type 0
+  HasTakenAttached work taken before after = (o : Offer D) (g : ℕ) → work ≡ Attached o g → HasTakenHome home g taken before after
+
+module _ {J D H W : Type 0} where
+  -- the supervisor's first seat at a board of so many slots, which has made no post
+  abbrev pub IsNewSeat : ℕ → SessionLimit → TableId → Sitting (Option J) (Option H) (View D) (HomeView W) → Type 0
+  IsNewSeat count limit table seat =
+      (seat.table ≡ table) × (table.words ≡ 3 * count + 1) × (table.slots ≡ count) × (seat.me ≡ (Postmaster (new_roster count limit 0), []))
+
 -- the first of these, where there is one, and what is left
 abbrev pub TakesFirst : {A : Type 0} → Option A → List A → List A → Type 0
 TakesFirst first before after = MatchOption first ((before ≡ []) × (after ≡ [])) (λ x. before ≡ x ∷ after)
@@ -72,19 +98,24 @@ TakesFirst first before after = MatchOption first ((before ≡ []) × (after ≡
 abbrev pub cancel_of : ℕ → List ℕ → ℕ → ℕ → Cancel
 cancel_of k seed pid key = record { slot = k; pid = pid; seed = seed; key = key }
 
-module _ {D : Type 0} where
+module _ {D W : Type 0} where
   -- one post for each slot, in order
-  abbrev pub AreNewPosts : ℕ → SessionLimit → TableId → List (PostModel D) → Type 0
+  abbrev pub AreNewPosts : ℕ → SessionLimit → TableId → List (PostOf D W) → Type 0
   AreNewPosts count limit table posts =
       (length posts ≡ count)
-      × ((k : ℕ) (p : PostModel D) → slice_get posts k ≡ Some p → p ≡ record { table = table; slot = k; knows = idle_post limit })
+      × ((k : ℕ) (p : PostOf D W) → slice_get posts k ≡ Some p → p ≡ record { table = table; slot = k; knows = idle_post limit; home = p.home })
+
+  -- the post of the slot k of a new board, whose supervisor knew this of its home when it began to make them
+  abbrev pub new_post : {H : Type 0} → Home.Ghosts H W → SessionLimit → TableId → W → ℕ → PostOf D W
+  new_post home limit table first k = record { table = table; slot = k; knows = idle_post limit; home = no_takes (home.next (dealt_by home.dealt k first)) }
 
   -- the post of the slot k is made
-  abbrev pub HasDealt : ℕ → PostModel D → RosterModel D → RosterModel D → Type 0
-  HasDealt k post before after =
-      (post ≡ record { table = before.table; slot = k; knows = idle_post before.knows.session_limit })
-      × (after.knows ≡ with_post before.knows)
+  abbrev pub HasDealt : {H : Type 0} → Home.Ghosts H W → ℕ → PostOf D W → RosterModel D W → RosterModel D W → Type 0
+  HasDealt home k post before after =
+      (post ≡ record { table = before.table; slot = k; knows = idle_post before.knows.session_limit; home = no_takes (home.next before.home.knows) })
+      × (after.knows ≡ with_post before.knows) × (after.home ≡ with_knows before.home (home.dealt before.home.knows))
 
+module _ {D : Type 0} where
   -- the slot k is x now, and these are the notes. The number of slots, every other slot and all else are as before
   pub record SlotBecame (k : ℕ) (x : SlotView D) (notes : RosterNotes) (before after : RosterView D) : Type 0 where
     pub count : length after.slots ≡ length before.slots

@@ -2,7 +2,7 @@
 use Rattle.std.specs.Prelude.{◌≡◌, ℕ, ◌+◌, ◌<◌, ◌≤◌, Bool, true, false, ◌==◌, ◌&&◌, List, [], ◌∷◌, length, slice_index_or}
 use Rattle.pm_exit.specs.{declared.child.{Kind.Kind, Status.Status}, Ends.is_exit_0}
 use Rattle.pm_exit.specs.declared.child.Kind.TheVariants as kind
-use Rattle.pm_board.specs.{declared.views.{Offer.Offer, PastChild.PastChild, Sight.{Sight, TheVariants.{Unused, Opened, Assigned, Exited, Collected, Gathered}}, SlotView.SlotView, RosterView.RosterView}, Words.bit}
+use Rattle.pm_board_words.specs.{declared.views.{Offer.Offer, PastChild.PastChild, Sight.{Sight, TheVariants.{Unused, Opened, Assigned, Exited, Collected, Gathered}}, SlotView.SlotView, RosterView.RosterView}, Words.bit}
 
 -- The slots 0 to 2 are those of startup child, checkpointer and writer, the last four those of dead-end children, and
 -- those between serve sessions. A dead-end child fits every slot.

@@ -1,6 +1,7 @@
 -- Posts on which no child runs.
 use Rattle.std.{proofs.Common.{◌≡◌, ℕ, suc, List, [], ◌∷◌, refl, sym, ◌∙◌, subst}, specs.Prelude.{Option, Some, None, MatchOption, slice_get}}
-use Rattle.pm_board.specs.{declared.views.Work.TheVariants.Idle, Models.PostModel}
+use Rattle.pm_board_words.specs.declared.views.Work.TheVariants.{Idle}
+use Rattle.pm_board.specs.Models.{PostModel}
 
 module _ {D : Type 0} where
   -- no child runs on any of these posts

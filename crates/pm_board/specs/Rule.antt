@@ -1,15 +1,15 @@
 -- The rule of the board: the words, the mails at home and all views agree, slot by slot.
-use Rattle.std.specs.Prelude.{◌≡◌, ◌≢◌, ℕ, ◌+◌, ◌*◌, ◌<◌, ◌≤◌, Bool, true, false, List, [], ◌∷◌, ◌++◌, Option, Some, None, length, slice_index_or}
+use Rattle.std.{specs.Prelude.{◌≡◌, ◌≢◌, ℕ, ◌+◌, ◌*◌, ◌<◌, ◌≤◌, Bool, true, false, List, [], ◌∷◌, ◌++◌, Option, Some, None, length, slice_index_or}, proofs.Common.{subst, sym}}
 use mathlib.Core.Option.{some}
 use native.Mathlib.Decide.{ℕ_discrete}
-use Rattle.std.proofs.Common.{subst, sym}
 use mathlib.Core.Option as maybe
 use lib.ListN.{get_elem?}
 use Rattle.atomic_table.specs.Table.{State}
 use Rattle.pm_exit.specs.declared.child.Status.{Status}
 use Rattle.pm_exit.specs.declared.child.Status.TheVariants as status
-use Rattle.pm_board.specs.{Slots.child_slots, declared.views.{SessionLimit.SessionLimit, Heard.Heard, Offer.Offer, PastChild.PastChild, PostNotes.PostNotes, Sight.{Sight, TheVariants.{Unused, Opened, Assigned, Exited, Collected, Gathered}}, SlotView.SlotView, RosterView.RosterView, Work.{Work, TheVariants.{Idle, Sees, Inactive, Active, Refused, Attached}}, PostView.PostView, View.{View, TheVariants.{Postmaster, Worker, Spent}}}, Words.{packed, status_number}, Places.{slot_at, SlotServes, EndsWell}}
-use Rattle.pm_board.specs.declared.views.Letter as Letter
+use Rattle.pm_board_words.specs.{declared.views.{SessionLimit.SessionLimit, Heard.Heard, Offer.Offer, PastChild.PastChild, PostNotes.PostNotes, Sight.{Sight, TheVariants.{Unused, Opened, Assigned, Exited, Collected, Gathered}}, SlotView.SlotView, RosterView.RosterView, Work.{Work, TheVariants.{Idle, Sees, Inactive, Active, Refused, Attached}}, PostView.PostView, View.{View, TheVariants.{Postmaster, Worker, Spent}}}, Words.{packed, status_number}}
+use Rattle.pm_board.specs.{Slots.child_slots, Places.{slot_at, SlotServes, EndsWell}}
+use Rattle.pm_board_words.specs.declared.views.Letter as Letter
 
 -- Where a slot stands. One that is opened has the pid that its latch is armed for, a child that runs its
 -- active bit, and one that has exited its status and whether it was active.

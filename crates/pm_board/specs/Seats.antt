@@ -2,7 +2,8 @@
 use Rattle.std.specs.Prelude.{◌≡◌, ℕ, ◌<◌, ◌≤◌, Bool, true, false, List}
 use mathlib.Core.Option.{some}
 use lib.ListN.{get_elem?}
-use Rattle.pm_board.specs.{declared.views.{Sight.{Sight, TheVariants.{Unused, Opened, Assigned, Exited, Collected, Gathered}}, RosterView.RosterView, View.{View, TheVariants.{Worker, Spent}}}, Places.slot_at, Rule.Cell}
+use Rattle.pm_board_words.specs.declared.views.{Sight.{Sight, TheVariants.{Unused, Opened, Assigned, Exited, Collected, Gathered}}, RosterView.RosterView, View.{View, TheVariants.{Worker, Spent}}}
+use Rattle.pm_board.specs.{Places.slot_at, Rule.Cell}
 
 module _ {D : Type 0} where
   -- the slot's post was taken in

@@ -1,9 +1,10 @@
 -- What each step tells the seat that makes it.
 use Rattle.std.specs.Prelude.{◌≡◌, ◌≢◌, ℕ, ◌+◌, ◌-◌, ◌*◌, ◌%◌, ◌^◌, ◌<◌, ◌==◌, min, Bool, true, false, ◌||◌, if◌then◌else◌, List, [], ◌∷◌, ◌++◌, Option, Some, None, Result, Ok, Err, slice_set, replicate}
 use Rattle.atomic_table.specs.Table.{Me, Step}
-use Rattle.pm_supervisor.specs.{pm_exit.declared.child.Status.Status, declared.Reason.{Reason, TheVariants.Stop}}
-use Rattle.pm_board.specs.{Slots.child_slots, declared.views.{SessionLimit.SessionLimit, Cancel.Cancel, Heard.Heard, Offer.Offer, PastChild.PastChild, PostNotes.PostNotes, RosterNotes.RosterNotes, PostStep.TheVariants.{Attach, Detach, Exit}, RosterStep.{RosterStep, TheVariants.{Assign, Release, Quit, Ready, Reset, Send}}, Sight.{Sight, TheVariants.{Unused, Opened, Assigned, Exited, Collected, Gathered}}, Signal.Signal, SlotView.SlotView, RosterView.RosterView, Work.{Work, TheVariants.{Idle, Sees, Inactive, Active, Refused, Attached}}, PostView.PostView, View.{View, TheVariants.{Postmaster, Worker, Spent}}}, Words.{stage_in, active_in, status_in, status_number, exit_step}, Places.{slot_view, slot_at, is_connection, EndsWell}, Gate.{gate_of, gate_after, gate_answer, reserve_by, generation_in, notice_bits}, Heard.HeardAsSent, Latch.{latch_place, latch_pid, signal_number, armed_word, signals_at}, Rule.{child_word, offer_word, no_signals, no_sessions, idle_post}}
-use Rattle.pm_board.specs.declared.views.Letter as Letter
+use Rattle.pm_supervisor.specs.{pm_exit.declared.child.Status.Status, declared.Reason.Reason}
+use Rattle.pm_board_words.specs.{declared.views.{SessionLimit.SessionLimit, Cancel.Cancel, Heard.Heard, Offer.Offer, PastChild.PastChild, PostNotes.PostNotes, RosterNotes.RosterNotes, PostStep.TheVariants.{Attach, Detach, Exit}, RosterStep.{RosterStep, TheVariants.{Assign, Release, Quit, Ready, Reset, Send}}, Sight.{Sight, TheVariants.{Unused, Opened, Assigned, Exited, Collected, Gathered}}, Signal.Signal, SlotView.SlotView, RosterView.RosterView, Work.{Work, TheVariants.{Idle, Sees, Inactive, Active, Refused, Attached}}, PostView.PostView, View.{View, TheVariants.{Postmaster, Worker, Spent}}}, Words.{stage_in, active_in, status_in, status_number, exit_step}, GateWords.{gate_answer, reserve_by, generation_in, MayQuit, quit_step}, Latch.{latch_place, latch_pid, signal_number, armed_word, signals_at}}
+use Rattle.pm_board.specs.{Slots.child_slots, Places.{slot_view, slot_at, is_connection, EndsWell}, Gate.{gate_of, gate_after}, Heard.HeardAsSent, Rule.{child_word, offer_word, no_signals, no_sessions, idle_post}}
+use Rattle.pm_board_words.specs.declared.views.Letter as Letter
 use Rattle.pm_child_life.specs.{declared.life.{Attempt.Attempt, GateNo.GateNo, Signals.Signals}, Life.attempt}
 
 abbrev pub no_roster_notes : RosterNotes
@@ -204,22 +205,6 @@ module _ {D : Type 0} where
   reposted (Worker k w) w' = Worker k w'
   reposted (Postmaster d) w' = Postmaster d
   reposted Spent w' = Spent
-
--- after the notice of a stop no other is given in its generation
-abbrev pub MayQuit : Option Reason → Reason → Type 0
-MayQuit noticed why = noticed ≡ Some Stop → why ≡ Stop
-
--- what a notice adds to the gate's word
-abbrev pub quit_step : Option Reason → Reason → ℕ
-quit_step noticed why = 33554432 * (notice_bits (Some why) - notice_bits noticed)
-
--- what opening the gate adds to its word, and takes from it
-abbrev pub ready_step : Option Reason → ℕ
-ready_step noticed = (16777216 + (18446744073709551616 - 33554432 * notice_bits noticed)) % 18446744073709551616
-
--- the word of a new generation
-abbrev pub new_gate : ℕ → ℕ
-new_gate generation = 134217728 * generation
 
 abbrev pub Seated : Type 0 → Type 0 → Type 0
 Seated J D = Me (Option J) (View D)

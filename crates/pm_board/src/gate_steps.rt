@@ -1,26 +1,27 @@
 //! The steps at the gate, one call each. The crate of the gate makes its calls of them, and nobody else uses them.
-ghost use Rattle.std.specs.Prelude.{◌≡◌, ◌+◌};
-ghost use Rattle.pm_board.specs.{declared.views.RosterStep.TheVariants.{Quit, Ready, Reset}, Told.MayQuit, pm_child_life.Life.attempt, Models.{MayAttach, MayTry, IsActive, IsRefused, IsAttached, HasMarked, HasUnmarked, HasTried, HasBackedOut, HasDetached, MayOpen, MayReset, HasStepped}};
+ghost use Rattle.std.specs.Prelude.{◌≡◌, ◌+◌, false};
+ghost use Rattle.pm_board_words.specs.{declared.views.RosterStep.TheVariants.{Quit, Ready, Reset}, GateWords.MayQuit};
+ghost use Rattle.pm_board.specs.{pm_child_life.Life.attempt, Models.{MayAttach, MayTry, IsActive, IsRefused, IsAttached, HasMarked, HasUnmarked, HasTried, HasBackedOut, HasDetached, MayOpen, MayReset, HasStepped}};
 
-use crate::packing::{ACTIVE, answer_at, new_word, place, quit_adds, ready_adds};
 use crate::plays::{BacksOut, Comes, Detaches, Marks, Quits, Readies, Resets, Tries, Unmarks};
 use crate::post::Post;
 use crate::roster::Roster;
-use crate::views::Letter;
+use pm_board_home::Home;
+use pm_board_words::{ACTIVE, Letter, answer_at, new_word, place, quit_adds, ready_adds};
 use pm_child_life::GateNo;
 use pm_supervisor::Reason;
 use std::marker::Brand;
 
-impl<J: Letter + Drop> Post<J> {
+impl<J: Letter + Drop, H: Home + Drop> Post<J, H> {
     /// Marks the slot as active.
     pub fn mark(&mut self)
         requires { MayAttach self.old.knows.work }
         ensures table { self.new.table ≡ self.old.table }
         ensures slot { self.new.slot ≡ self.old.slot }
+        ensures home { self.new.home ≡ self.old.home }
         ensures knows { HasMarked self.old.knows self.new.knows }
     {
         self.words
-            .shared
             .fetch_add::<Marks>(&mut self.seat, self.index, ACTIVE);
     }
 
@@ -29,6 +30,7 @@ impl<J: Letter + Drop> Post<J> {
         requires { MayTry self.old.knows.work }
         ensures table { self.new.table ≡ self.old.table }
         ensures slot { self.new.slot ≡ self.old.slot }
+        ensures home { self.new.home ≡ self.old.home }
         ensures met { HasTried (attempt is_ordinary result) self.old.knows self.new.knows }
     {
         self.take_place::<Brand>(is_ordinary)
@@ -40,14 +42,12 @@ impl<J: Letter + Drop> Post<J> {
         requires comes { C.is_ordinary ≡ is_ordinary }
         ensures table { self.new.table ≡ self.old.table }
         ensures slot { self.new.slot ≡ self.old.slot }
+        ensures home { self.new.home ≡ self.old.home }
         ensures met { HasTried (attempt is_ordinary result) self.old.knows self.new.knows }
     {
         let gate = self.words.slot_count();
         let adds = place(self.kind);
-        let found = self
-            .words
-            .shared
-            .fetch_add::<Tries<C>>(&mut self.seat, gate, adds);
+        let found = self.words.fetch_add::<Tries<C>>(&mut self.seat, gate, adds);
         answer_at(self.kind, is_ordinary, self.session_limit, found)
     }
 
@@ -56,26 +56,27 @@ impl<J: Letter + Drop> Post<J> {
         requires { IsRefused self.old.knows.work }
         ensures table { self.new.table ≡ self.old.table }
         ensures slot { self.new.slot ≡ self.old.slot }
+        ensures home { self.new.home ≡ self.old.home }
         ensures knows { HasBackedOut self.old.knows self.new.knows }
     {
         let gate = self.words.slot_count();
         let takes = place(self.kind);
         self.words
-            .shared
             .fetch_sub::<BacksOut>(&mut self.seat, gate, takes);
     }
 
-    /// Gives the place of a child back that is attached.
+    /// Gives the place of a child back that is attached, and hasn't what lies at the board's home.
     pub fn let_go(&mut self)
-        requires { IsAttached self.old.knows.work }
+        requires attached { IsAttached self.old.knows.work }
+        requires free { H.has self.old.home.knows ≡ false }
         ensures table { self.new.table ≡ self.old.table }
         ensures slot { self.new.slot ≡ self.old.slot }
+        ensures home { self.new.home ≡ self.old.home }
         ensures knows { HasDetached self.old.knows self.new.knows }
     {
         let gate = self.words.slot_count();
         let takes = place(self.kind);
         self.words
-            .shared
             .fetch_sub::<Detaches>(&mut self.seat, gate, takes);
     }
 
@@ -84,27 +85,26 @@ impl<J: Letter + Drop> Post<J> {
         requires { IsActive self.old.knows.work }
         ensures table { self.new.table ≡ self.old.table }
         ensures slot { self.new.slot ≡ self.old.slot }
+        ensures home { self.new.home ≡ self.old.home }
         ensures knows { HasUnmarked self.old.knows self.new.knows }
     {
         self.words
-            .shared
             .fetch_sub::<Unmarks>(&mut self.seat, self.index, ACTIVE);
     }
 }
 
-impl<J: Letter + Drop> Roster<J> {
+impl<J: Letter + Drop, H: Home + Drop> Roster<J, H> {
     /// Gives notice: no child is let in any more.
     pub fn quit(&mut self, why: Reason)
         requires { MayQuit self.old.knows.noticed why }
         ensures table { self.new.table ≡ self.old.table }
+        ensures home { self.new.home ≡ self.old.home }
         ensures knows { HasStepped (Quit why self.old.knows.generation) self.old.knows
             self.new.knows }
     {
         let gate = self.words.slot_count();
         let adds = quit_adds(self.noticed, why);
-        self.words
-            .shared
-            .fetch_add::<Quits>(&mut self.seat, gate, adds);
+        self.words.fetch_add::<Quits>(&mut self.seat, gate, adds);
         self.noticed = Some(why);
     }
 
@@ -112,27 +112,28 @@ impl<J: Letter + Drop> Roster<J> {
     pub fn ready(&mut self)
         requires { MayOpen self.old.knows }
         ensures table { self.new.table ≡ self.old.table }
+        ensures home { self.new.home ≡ self.old.home }
         ensures knows { HasStepped (Ready self.old.knows.generation) self.old.knows self.new.knows }
     {
         let gate = self.words.slot_count();
         let adds = ready_adds(self.noticed);
-        self.words
-            .shared
-            .fetch_add::<Readies>(&mut self.seat, gate, adds);
+        self.words.fetch_add::<Readies>(&mut self.seat, gate, adds);
         self.noticed = None;
     }
 
-    /// Begins the next generation, whatever the gate has counted.
+    /// Begins the next generation, whatever the gate has counted. The supervisor has what lies at the board's home, if something
+    /// does.
     pub fn reset(&mut self)
-        requires { MayReset self.old.knows }
+        requires may { MayReset self.old.knows }
+        requires lends { H.lends self.old.home.knows ≡ false }
         ensures table { self.new.table ≡ self.old.table }
+        ensures home { self.new.home ≡ self.old.home }
         ensures knows { HasStepped (Reset (self.old.knows.generation + 1)) self.old.knows
             self.new.knows }
     {
         let gate = self.words.slot_count();
         let generation = self.generation + 1;
         self.words
-            .shared
             .store::<Resets>(&mut self.seat, gate, new_word(generation));
         self.generation = generation;
         self.noticed = None;

@@ -3,29 +3,29 @@ ghost use Rattle.std.specs.Prelude.{◌≡◌, ◌<◌};
 ghost use Rattle.pm_keys.specs.CancelKey.{cancel_key};
 ghost use Rattle.pm_board.specs.{Slots.child_slots, Places.IsAssigned, Models.{RunsChild, HasSent, HasTakenSignals, HasHeeded, HasLookedAtLatch, HasCancelled, cancel_of}};
 
-use crate::packing::{NO_SIGNALS, armed_for, signal_bit, signals};
 use crate::plays::{Cancels, Heeds, LooksAtLatch, Made, Sends, Takes};
 use crate::post::Post;
 use crate::roster::Roster;
-use crate::views::{Letter, Signal};
+use pm_board_home::Home;
+use pm_board_words::{Letter, NO_SIGNALS, Signal, armed_for, signal_bit, signals};
 use pm_child_life::Signals;
 use std::marker::Brand;
 
-impl<J: Letter + Drop> Roster<J> {
+impl<J: Letter + Drop, H: Home + Drop> Roster<J, H> {
     /// Lets a signal stand for the child of a slot.
     pub fn send(&mut self, slot: u32, signal: Signal)
         requires { IsAssigned self.old.knows slot }
         ensures table { self.new.table ≡ self.old.table }
+        ensures home { self.new.home ≡ self.old.home }
         ensures knows { HasSent slot signal self.old.knows self.new.knows }
     {
         let latch = self.words.slot_count() + 1 + slot as usize;
         self.words
-            .shared
             .fetch_or::<Sends>(&mut self.seat, latch, signal_bit(signal));
     }
 }
 
-impl<J: Letter + Drop> Post<J> {
+impl<J: Letter + Drop, H: Home + Drop> Post<J, H> {
     /// How many slots the board has.
     pub fn slots(&self) -> u32
         ensures { result ≡ child_slots self.now.table.slots }
@@ -39,12 +39,12 @@ impl<J: Letter + Drop> Post<J> {
         requires cancel { cancel ≡ self.old.knows.notes.now.heeded }
         ensures table { self.new.table ≡ self.old.table }
         ensures slot { self.new.slot ≡ self.old.slot }
+        ensures home { self.new.home ≡ self.old.home }
         ensures met { HasTakenSignals result self.old.knows self.new.knows }
     {
         let latch = self.words.slot_count() + 1 + self.index;
         let found = self
             .words
-            .shared
             .fetch_and::<Takes>(&mut self.seat, latch, NO_SIGNALS);
         signals(found, cancel)
     }
@@ -54,6 +54,7 @@ impl<J: Letter + Drop> Post<J> {
         requires { RunsChild self.old.knows.work }
         ensures table { self.new.table ≡ self.old.table }
         ensures slot { self.new.slot ≡ self.old.slot }
+        ensures home { self.new.home ≡ self.old.home }
         ensures met { HasHeeded result self.old.knows self.new.knows }
     {
         let count = self.words.slot_count();
@@ -61,7 +62,6 @@ impl<J: Letter + Drop> Post<J> {
         let pid = u64::from(self.pid);
         let found = self
             .words
-            .shared
             .compare_exchange::<Heeds>(&mut self.seat, place, pid, 0);
         found == pid
     }
@@ -71,13 +71,11 @@ impl<J: Letter + Drop> Post<J> {
         requires { slot < child_slots self.old.table.slots }
         ensures table { self.new.table ≡ self.old.table }
         ensures slot { self.new.slot ≡ self.old.slot }
+        ensures home { self.new.home ≡ self.old.home }
         ensures met { HasLookedAtLatch slot result self.old.knows self.new.knows }
     {
         let latch = self.words.slot_count() + 1 + slot as usize;
-        let found = self
-            .words
-            .shared
-            .load::<LooksAtLatch>(&mut self.seat, latch);
+        let found = self.words.load::<LooksAtLatch>(&mut self.seat, latch);
         armed_for(found)
     }
 
@@ -87,6 +85,7 @@ impl<J: Letter + Drop> Post<J> {
         requires key { key ≡ cancel_key seed.now pid }
         ensures table { self.new.table ≡ self.old.table }
         ensures slot { self.new.slot ≡ self.old.slot }
+        ensures home { self.new.home ≡ self.old.home }
         ensures knows { HasCancelled (cancel_of slot seed.now pid key) self.old.knows
             self.new.knows }
     {
@@ -100,12 +99,12 @@ impl<J: Letter + Drop> Post<J> {
         requires key { C.cancel.key ≡ cancel_key C.cancel.seed C.cancel.pid }
         ensures table { self.new.table ≡ self.old.table }
         ensures slot { self.new.slot ≡ self.old.slot }
+        ensures home { self.new.home ≡ self.old.home }
         ensures knows { HasCancelled C.cancel self.old.knows self.new.knows }
     {
         let count = self.words.slot_count();
         let place = count + 1 + count + slot as usize;
         self.words
-            .shared
             .fetch_max::<Cancels<C>>(&mut self.seat, place, u64::from(pid));
     }
 }

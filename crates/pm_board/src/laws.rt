@@ -1,8 +1,9 @@
 //! What holds of a board between any two steps. Each law is stated in `specs/Laws`, and carried by the function of its name.
 
-ghost use Rattle.pm_board.specs.{Children.CountsChildren, Laws.{ResetFindsNobody, ShowsASoundState, HistoryIsOfTheSeats, HearsWhatWasSent, LetsInRightly}};
+ghost use Rattle.pm_board.specs.{Children.CountsChildren, Laws.{ResetFindsNobody, ShowsASoundState, HistoryIsOfTheSeats, HearsWhatWasSent, LetsInRightly, LendsRightly}};
 
-use crate::views::Letter;
+use pm_board_home::Home;
+use pm_board_words::Letter;
 use pm_supervisor::keeps_what_is_shared;
 
 /// Where the supervisor sees no slot with a child, no worker does anything. So a reset finds nobody attached, whatever the
@@ -46,4 +47,10 @@ pub fn lets_in_rightly<J: Letter>()
 /// such kinds than slots that only these have, one of those slots is free.
 pub fn counts_children()
     ensures { CountsChildren }
+{}
+
+/// At any moment, who has what lies at the board's home is the supervisor, or a worker whose child is attached in the gate's
+/// generation. In a worker's hand it is of that generation, and so it is where it lies at home.
+pub fn lends_rightly<J: Letter, H: Home>()
+    ensures { LendsRightly J.Letter H.Home }
 {}

@@ -1,10 +1,11 @@
 //! The rule of the table, and what each step tells the seat that makes it.
-ghost use Rattle.std.specs.Prelude.{[], Bool, true};
-ghost use Rattle.pm_board.specs.declared.views.Cancel.{Cancel};
+ghost use Rattle.std.specs.Prelude.{ℕ, ◌+◌, ◌*◌, [], Bool, true};
+ghost use Rattle.pm_board_words.specs.declared.views.Cancel.{Cancel};
 
-use crate::views::{Letter, SessionLimit, View};
-use atomic_table::{Join, Play, Split, Table, TableRule};
-use std::alloc::Global;
+use atomic_table::{Join, Play, Split, TableRule};
+use pm_board_home::{AtHome, Home, HomeView};
+use pm_board_words::{Letter, SessionLimit, View};
+use pm_halves::{Tells, Tie, TwoSeat, TwoTable};
 use std::marker::{Brand, PhantomData};
 
 /// How many slots there are, and how many sessions may be attached.
@@ -26,7 +27,53 @@ impl<J: Letter> TableRule<Option<J>, View<J::Told>, Limits> for Slots<J> {
     ghost first = { λ k. newcomer k.slots k.sessions };
 }
 
-pub(crate) type Words<J> = Table<Option<J>, View<<J as Letter>::Told>, Limits, Slots<J>, Global>;
+/// What ties what seats know of the board to what they know of its home.
+pub(crate) struct Ties<J, H> {
+    of: PhantomData<(J, H)>,
+}
+
+impl<J: Letter, H: Home> Tie<View<J::Told>, HomeView<H::Knows>> for Ties<J, H> {
+    ghost use Rattle.pm_board.specs.{Slots.child_slots, Ties.Tied};
+
+    ghost words = { λ n. 3 * child_slots n + 1 };
+
+    ghost places = { 1 };
+
+    ghost tied = { Tied H.Home };
+}
+
+/// What board and home tell together of a take.
+impl<J: Letter, H: Home> Tells<View<J::Told>, HomeView<H::Knows>> for Ties<J, H> {
+    ghost use Rattle.pm_board.specs.Ties.{TellsStamp};
+
+    ghost tells = { TellsStamp H.Home };
+}
+
+/// And of a give, which is nothing.
+pub(crate) struct Silent;
+
+impl<V, W> Tells<V, W> for Silent {
+    ghost tells = { λ _ _ _. Unit {0} };
+}
+
+pub(crate) type Words<J, H> = TwoTable<
+    Option<J>,
+    Option<H>,
+    View<<J as Letter>::Told>,
+    HomeView<<H as Home>::Knows>,
+    Limits,
+    Slots<J>,
+    AtHome<H>,
+    Ties<J, H>,
+>;
+
+pub(crate) type Seated<J, H> = TwoSeat<
+    Option<J>,
+    Option<H>,
+    View<<J as Letter>::Told>,
+    HomeView<<H as Home>::Knows>,
+    Ties<J, H>,
+>;
 
 pub(crate) struct Arms;
 
@@ -81,7 +128,8 @@ impl<D> Split<View<D>> for Deals {
 pub(crate) struct Gathers;
 
 impl<D> Join<View<D>> for Gathers {
-    ghost use Rattle.pm_board.specs.{Told.taken_in, declared.views.View.TheVariants.Spent};
+    ghost use Rattle.pm_board_words.specs.declared.views.View.TheVariants.{Spent};
+    ghost use Rattle.pm_board.specs.Told.{taken_in};
 
     ghost both = { taken_in };
 

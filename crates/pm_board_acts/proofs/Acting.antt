@@ -1,12 +1,12 @@
 -- The acts at the board.
 use Rattle.std.{proofs.{Common.{◌≡◌, ℕ, suc, ◌+◌, ◌^◌, ◌<◌, ◌≤◌, List, [], ◌∷◌, ◌++◌, refl, sym, ap, subst, ◌∙◌, length, map, get_or, arith, nat_eq, append-nil, length-set, Ok}, lemmas.Option.same_Some}, specs.Prelude.{Bool, true, false, if◌then◌else◌, Option, Some, None, IfSome}}
-use Rattle.pm_board.{specs.{pm_facts.Bools.by_test, pm_exit.declared.child.Kind.Kind, declared.views.{RosterStep.RosterStep, RosterView.RosterView, Sight.TheVariants.{Unused, Assigned}, Signal.Signal, SlotView.SlotView}, Gate.{Gate, gate_of}, Places.{SlotServes, is_auxiliary, slot_at, slot_view, used_in}, Told.after_step}, proofs.BoardLaws.no_connection}
+use Rattle.pm_board.{specs.{pm_facts.Bools.by_test, pm_exit.declared.child.Kind.Kind, pm_board_words.declared.views.{RosterStep.RosterStep, RosterView.RosterView, Sight.TheVariants.{Unused, Assigned}, Signal.Signal, SlotView.SlotView}, Gate.{Gate, gate_of}, Places.{SlotServes, is_auxiliary, slot_at, slot_view, used_in}, Told.after_step}, proofs.BoardLaws.no_connection}
 use Rattle.pm_board.specs.pm_exit.declared.child.Kind.TheVariants as kind
 use Rattle.pm_supervisor_journal.{specs.{pm_state.{declared.{action.Action.Action, event.PmEvent.PmEvent}, Journal.without_first}, declared.{act.Act.Act, roll.Enrolled.Enrolled}, Laws.GoesOnOverItsJournal, Roll.kind_in, Stands.{AtWork, Stands}, pm_outside.Added.Added, Standing.{Standing, act_for, done, entry_for, first_due, next_of, next_pid}}, proofs.{NextsLaws.{first_is, next_given}, ToldLaws.told_more}}
 use Rattle.pm_supervisor_journal.specs.pm_state.declared.action.Action.TheVariants as action
 use Rattle.pm_supervisor_journal.specs.pm_state.declared.event.PmEvent.TheVariants as entry
-use Rattle.pm_board.specs.declared.views.RosterStep.TheVariants as step
-use Rattle.pm_board.specs.declared.views.Signal.TheVariants as signal
+use Rattle.pm_board.specs.pm_board_words.declared.views.RosterStep.TheVariants as step
+use Rattle.pm_board.specs.pm_board_words.declared.views.Signal.TheVariants as signal
 use Rattle.pm_supervisor_journal.specs.declared.act.Act.TheVariants as act
 use Rattle.pm_board_acts.{specs.{declared.audience.Audience.{Audience, TheVariants.{Everyone, Stoppable, Checkpointer}}, Acts.{HasLostNone, StartOnly, StartsAfresh, gate_by, gate_shown, MayDo, MayPerform, NoneIs, Performs, slot_of, steps_for}, Board.{SeenAs, after_steps, begun_of, ended_of, seat_at, seats_of, sitting}, Calls.slot_for, Seating.{Seating, Move, Notes, Begun, Ended, begins, ends, begun_at, ended_at, board_steps, begun_by, ended_by, journal_of, seating_by, steps_by, is_meant, seated, seating_of, sends, sends_from, steps_of}, Standing.{AreOnRoll, View, IsRunning, IsSeated, Goes, SeatServes, view}}, proofs.{Afresh.{afresh_acted, own_kind}, Calling.sat_down, FoldingLaws.{journal-more, seating-more, steps-more, begun-more, ended-more}, Rightly.right_none, Rolls.found_kind, Sends.{noted-steps, same-slots, same-generation, shows_same}}}
 

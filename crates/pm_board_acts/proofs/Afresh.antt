@@ -1,12 +1,12 @@
 -- In which slots no auxiliary child has died attached.
 use Rattle.std.{proofs.{Common.{◌≡◌, ℕ, ◌+◌, ◌<◌, ◌≤◌, List, [], ◌∷◌, ◌++◌, refl, sym, ap, subst, ◌∙◌, get_or, arith, nat_eq}, lemmas.Bool.{eqb-false, eqb-true, ne_eqb}}, specs.{List.AllByRecursion, Prelude.{Bool, true, false, ◌==◌, ◌&&◌, Option, IsSomeAnd}}}
-use Rattle.pm_board.specs.{pm_facts.{Lists.each_more, Bools.by_test}, pm_exit.declared.child.Kind.Kind, pm_supervisor.{declared.Limits.Limits, Children.{child_of, is_startup_child}, Steps.Trace}, declared.{views.{PastChild.PastChild, RosterNotes.RosterNotes, RosterStep.RosterStep, RosterView.RosterView, Sight.TheVariants.Unused, SlotView.SlotView}, roster.Released.Released}, Places.{is_auxiliary, lost, slot_at, slot_view}, Models.SlotBecame, Told.after_step, Words.bit}
+use Rattle.pm_board.specs.{pm_facts.{Lists.each_more, Bools.by_test}, pm_exit.declared.child.Kind.Kind, pm_supervisor.{declared.Limits.Limits, Children.{child_of, is_startup_child}, Steps.Trace}, pm_board_words.{declared.views.{PastChild.PastChild, RosterNotes.RosterNotes, RosterStep.RosterStep, RosterView.RosterView, Sight.TheVariants.Unused, SlotView.SlotView}, Words.bit}, declared.roster.Released.Released, Places.{is_auxiliary, lost, slot_at, slot_view}, Models.SlotBecame, Told.after_step}
 use Rattle.pm_board.specs.pm_exit.declared.child.Kind.TheVariants as kind
 use Rattle.pm_supervisor_journal.specs.{pm_state.{declared.{action.Action.Action, machine.Machine.Machine}, Facts.Facts, Journal.{acts_of_call, all_reported}, Shows.{Call, Exits, machine_after}}, declared.roll.Enrolled.Enrolled, Standing.{Standing, act_for}}
 use Rattle.pm_supervisor_journal.specs.pm_state.declared.action.Action.TheVariants as action
-use Rattle.pm_board.specs.declared.views.RosterStep.TheVariants as step
-use Rattle.pm_board.specs.declared.views.Signal.TheVariants as signal
-use Rattle.pm_board.specs.declared.views.Letter as Letter
+use Rattle.pm_board.specs.pm_board_words.declared.views.RosterStep.TheVariants as step
+use Rattle.pm_board.specs.pm_board_words.declared.views.Signal.TheVariants as signal
+use Rattle.pm_board.specs.pm_board_words.declared.views.Letter as Letter
 use Rattle.pm_supervisor_journal.specs.declared.act.Act.TheVariants as act
 use Rattle.pm_board_acts.{specs.{declared.audience.Audience.TheVariants.{Everyone, Stoppable, Checkpointer}, Acts.{HasLostNone, Performs, StartOnly, StartsAfresh, may_start, slot_of, steps_for}, Board.after_steps, Sitting.HasReaped, Standing.SeatServes}, proofs.{Sends.{same-generation, same-slots}, Starting.{EndsOne, MayFollow, call_starts, call_yet, exits_spoil, exits_start, only_also, report_yet, startup_runs}}}
 

@@ -2,8 +2,8 @@
 use Rattle.std.{proofs.Common.{◌≡◌, ℕ, ◌<◌, List, [], ◌∷◌, ◌++◌, refl, sym, ap, subst, ◌∙◌, append-nil, nat_eq, length}, specs.{List.flat_map, Prelude.{Bool, true, false, if◌then◌else◌, Option, Some, None, IfSome, Result, Ok, Err, OnErr, OnOk, is_some}}}
 use Rattle.pm_state.specs.{pm_modes.declared.Mode.Mode, pm_supervisor.{declared.Limits.Limits, Steps.Trace}, declared.{action.Action.Action, event.PmEvent.PmEvent}, Journal.acts_of_call, Laws.TellsOfEachStart, Machine.IsReady, Shows.{Call, IsFit}}
 use Rattle.pm_state.specs.declared.event.PmEvent.TheVariants as entry
-use Rattle.pm_board.specs.{declared.views.{RosterStep.RosterStep, RosterView.RosterView}, Gate.{Gate, gate_of}}
-use Rattle.pm_board.specs.declared.views.Signal.TheVariants as signal
+use Rattle.pm_board.specs.{pm_board_words.declared.views.{RosterStep.RosterStep, RosterView.RosterView}, Gate.{Gate, gate_of}}
+use Rattle.pm_board.specs.pm_board_words.declared.views.Signal.TheVariants as signal
 use Rattle.pm_supervisor_journal.{specs.{declared.roll.Enrolled.Enrolled, Laws.{GoesOnOverItsJournal, KeepsALegalJournal}, Roll.kind_in, pm_outside.Added.Added, Standing.{IsAtRest, Making, MayAsk, Standing, asking, called, kill_entry, killed, later, made, ticking, turning}, Stands.{AtWork, Stands, behind}}, proofs.{ToldLaws.told_more, NextsLaws.noted-due}}
 use Rattle.pm_board_acts.{specs.{declared.audience.Audience.TheVariants.One, Acts.{MayDo, StartsAfresh, gate_by, gate_shown, roll_behind}, Board.after_steps, Calls.{AsksFor, Makes, StandsStill}, Laws.LinesMayAskForNothing, Seating.{Move, Notes, Reads, PortEnds, PidsEnd, Kill, Seating, asked_by, entries_by, is_seated, journal_of, seating_of, sends, steps_of}, Standing.{AreOnRoll, Goes, IsAt, IsSeated, View, kind_seated}}, proofs.{Acting.{moved, same-gate}, Afresh.{afresh_called, afresh_still, stepped_same}, Calling.{afresh_noted, rested}, FoldingLaws.{journal-more, none_more}, Gating.calls_leave, Resting.call_may, Sends.same-generation, Starting.EndsOne}}
 

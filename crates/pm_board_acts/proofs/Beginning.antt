@@ -1,6 +1,6 @@
 -- Before the first move.
 use Rattle.std.{proofs.Common.{◌≡◌, ℕ, zero, suc, ◌<◌, ◌≤◌, List, [], ◌∷◌, ◌++◌, refl, sym, ap, subst, ◌∙◌, length, get_or, map, replicate, arith}, specs.{List.AllByRecursion, Prelude.{Option, Some, None}}}
-use Rattle.pm_board.specs.{pm_supervisor.{declared.Limits.Limits, Steps.empty_trace}, declared.views.{SessionLimit.SessionLimit, RosterView.RosterView, Sight.TheVariants.Unused, SlotView.SlotView}, Children.{child_seen, children_of}, Gate.gate_of, Places.{is_auxiliary, lost, slot_at, slot_view}, Told.new_roster}
+use Rattle.pm_board.specs.{pm_supervisor.{declared.Limits.Limits, Steps.empty_trace}, pm_board_words.declared.views.{SessionLimit.SessionLimit, RosterView.RosterView, Sight.TheVariants.Unused, SlotView.SlotView}, Children.{child_seen, children_of}, Gate.gate_of, Places.{is_auxiliary, lost, slot_at, slot_view}, Told.new_roster}
 use Rattle.pm_supervisor_journal.specs.{declared.roll.Enrolled.Enrolled, Laws.GoesOnOverItsJournal, Standing.Standing, Stands.Stands}
 use Rattle.pm_board_acts.specs.{Acts.{MayDo, StartsAfresh, gate_by, slot_of}, Board.{SeenAs, enrolled, begun_of, ended_of, seat_at, seats_of, sitting}, Seating.empty, Standing.{IsAt, IsSeated, IsUnbegun, SitApart, SitBelow, View, kind_seated}}
 

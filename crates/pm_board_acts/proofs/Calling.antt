@@ -1,10 +1,10 @@
 -- A supervisor's calls, over who sits where.
 use Rattle.std.{proofs.{Common.{◌≡◌, ℕ, zero, suc, ◌+◌, ◌<◌, ◌≤◌, List, [], ◌∷◌, ◌++◌, refl, sym, ap, subst, ◌∙◌, length, set, map, arith, nat_eq, append-nil, append_assoc, length-set}, lemmas.{Bool.{Decides.nat_tests, eqb-true, eqb-false}, List.{set-get_or, get_or-set_same, get_or-set_other}}}, specs.{Option.unwrap_or, Prelude.{nat_lt, Bool, true, false, if◌then◌else◌, Option, Some, None, IfSome}}}
-use Rattle.pm_board.specs.{pm_facts.Bools.by_test, pm_exit.declared.child.Kind.Kind, pm_supervisor.{declared.Limits.Limits, Steps.{Trace, kind_for}}, declared.{views.{Offer.Offer, RosterNotes.RosterNotes, RosterStep.{RosterStep, TheVariants.{Assign, Release}}, RosterView.RosterView, SlotView.SlotView, PastChild.PastChild}, roster.Released.Released}, Places.{is_connection, slot_at}, Models.HasAssigned, Gate.{Gate, gate_of}}
+use Rattle.pm_board.specs.{pm_facts.Bools.by_test, pm_exit.declared.child.Kind.Kind, pm_supervisor.{declared.Limits.Limits, Steps.{Trace, kind_for}}, pm_board_words.declared.views.{Offer.Offer, RosterNotes.RosterNotes, RosterStep.{RosterStep, TheVariants.{Assign, Release}}, RosterView.RosterView, SlotView.SlotView, PastChild.PastChild}, declared.roster.Released.Released, Places.{is_connection, slot_at}, Models.HasAssigned, Gate.{Gate, gate_of}}
 use Rattle.pm_supervisor_journal.{specs.{pm_state.{declared.{event.PmEvent.PmEvent, action.Action.Action}, Journal.acts_of_call}, declared.{exit.ChildExit.ChildExit, roll.Enrolled.Enrolled}, Laws.{GoesOnOverItsJournal, KeepsALegalJournal}, Roll.{kind_in, without}, pm_outside.Added.Added, Standing.{IsAtRest, MayTake, Standing, accepting, exiting, made, next_pid, decision_on, all_noted, called, ends_redo, exit_call, exit_entry, later, noted}, Stands.{HasPast, IsSettled, Stands, behind}}, proofs.{ToldLaws.{stands_told, told_more}, NextsLaws.noted-due}}
 use Rattle.pm_supervisor_journal.specs.pm_state.declared.event.PmEvent.TheVariants as entry
 use Rattle.pm_board_acts.{specs.{Seating.{Seating, Move, Notes, Begun, Ended, child, with_seat, seated, steps_of, begins, ends, ended_by, steps_by, begun_at, ended_at, seating_of, board_steps, journal_of}, Acts.{MayDo, StartsAfresh, gate_by, gate_shown}, Board.{Shows, ended_of, begun_of, seat_at, sitting}, Sitting.{HasReaped, StillRuns}, Standing.{View, IsAt, IsRunning, IsEnding, Goes, IsSeated, AreOnRoll, SeatServes}, Calls.{accepts, exits, exit_of, notes_in, EndsBehind, IsCutOff}}, proofs.{Afresh.{SamePast, afresh_called, afresh_still, became_same}, Gating.calls_leave, FoldingLaws.{journal-more, journal-notes, seating-more, steps-more, begun-more, ended-more}, Rolls.{on_roll_more, on_roll_less, found_kind, stood_before}, Rightly.{right_none, seats_of_all}, Sitting.{shows_set, had_begun, had_ended}}}
-use Rattle.pm_board.specs.declared.views.Letter as Letter
+use Rattle.pm_board.specs.pm_board_words.declared.views.Letter as Letter
 
 pub past_of : {D : Type 0} (v : View D) → IsRunning v → HasPast v.work
 past_of v running = (running.0, running.3.past, stands_told running.0 v.work.told (journal_of running.1 running.2) v.work.standing running.3.past running.3.told running.3.stands)

@@ -1,8 +1,8 @@
 -- After the last entry.
 use Rattle.std.{proofs.{Common.{◌≡◌, ◌≢◌, ℕ, suc, ◌+◌, ◌<◌, ◌≤◌, List, [], ◌∷◌, ◌++◌, refl, sym, ap, subst, ◌∙◌, length, set, get_or, map, arith, nat_eq, append-nil, append_assoc}, lemmas.{List.{get_or-set_same, get_or-set_other, get_or_past, map-append, set-get_or}, Bool.{eqb-false, eqb-true}}}, specs.{Prelude.{nat_lt, Option, Some, None}, List.AllByRecursion}}
-use Rattle.pm_board.specs.{pm_facts.{Lists.each_both, Bools.by_test}, pm_supervisor.declared.Limits.Limits, declared.{views.{Offer.Offer, PastChild.PastChild, RosterNotes.RosterNotes, RosterStep.{RosterStep, TheVariants.Release}, RosterView.RosterView, Sight.TheVariants.Unused, SlotView.SlotView}, roster.Released.Released}, Places.{slot_at, slot_view}, Told.past_child}
-use Rattle.pm_board.specs.declared.views.Signal.TheVariants as signal
-use Rattle.pm_board.specs.declared.views.Letter as Letter
+use Rattle.pm_board.specs.{pm_facts.{Lists.each_both, Bools.by_test}, pm_supervisor.declared.Limits.Limits, pm_board_words.declared.views.{Offer.Offer, PastChild.PastChild, RosterNotes.RosterNotes, RosterStep.{RosterStep, TheVariants.Release}, RosterView.RosterView, Sight.TheVariants.Unused, SlotView.SlotView}, declared.roster.Released.Released, Places.{slot_at, slot_view}, Told.past_child}
+use Rattle.pm_board.specs.pm_board_words.declared.views.Signal.TheVariants as signal
+use Rattle.pm_board.specs.pm_board_words.declared.views.Letter as Letter
 use Rattle.pm_supervisor_journal.specs.{declared.roll.Enrolled.Enrolled, Laws.KeepsALegalJournal, Stands.{AtWork, highest_pid}}
 use Rattle.pm_board_acts.{specs.{declared.audience.Audience.TheVariants.Everyone, Board.{SeenAs, Shows, after_steps, begun_of, ended_of, seat_at, seats_of, sitting}, Final.{EndsWithNobody, IsEndingAt, KeepsEnding, MayEndAnywhere, NobodySits, seen}, Seating.{Begun, Ended, Move, Seating, begun_at, board_steps, ended_at, seating_of, sends, sends_from, with_seat}, Sitting.{HasReaped, StillRuns}, Standing.{IsAt, IsEnding, IsFinal, view}}, proofs.{Acting.same-numbers, Rolls.stood_before, Seen.as_many, Sends.{noted-steps, same-generation, same-slots, seats_kept, shows_sends}, Sitting.shows_set}}
 

@@ -1,7 +1,7 @@
 -- What leaves the children that were released, and whether the journal tells.
 use Rattle.std.{proofs.Common.{◌≡◌, ℕ, ◌++◌, ◌∙◌, refl, ap, append-nil, get_or}, specs.Prelude.{List, [], Option, None, Some, Result, Ok, Err, OnErr, OnOk, is_some}}
 use Rattle.pm_supervisor_journal.specs.{pm_state.declared.event.PmEvent.PmEvent, pm_outside.Added.Added, Standing.Standing, declared.{act.Act.Act, roll.Enrolled.Enrolled}}
-use Rattle.pm_board.specs.{pm_exit.declared.child.Kind.Kind, declared.views.{RosterNotes.RosterNotes, RosterStep.RosterStep, RosterView.RosterView, Sight.TheVariants.Unused, SlotView.SlotView}, Models.SlotBecame, Places.{slot_at, slot_view}}
+use Rattle.pm_board.specs.{pm_exit.declared.child.Kind.Kind, pm_board_words.declared.views.{RosterNotes.RosterNotes, RosterStep.RosterStep, RosterView.RosterView, Sight.TheVariants.Unused, SlotView.SlotView}, Models.SlotBecame, Places.{slot_at, slot_view}}
 use Rattle.pm_supervisor_journal.specs.declared.act.Act.TheVariants as act
 use Rattle.pm_board_acts.{specs.{Acts.{Performs, slot_of, steps_for}, Board.after_steps, Sitting.KeepsPast}, proofs.{Afresh.became_same, Sends.same-slots}}
 

@@ -1,9 +1,9 @@
 -- Which slots were looked at since the last connection.
 use Rattle.std.{proofs.{Common.{◌≡◌, ℕ, ◌+◌, ◌<◌, ◌≤◌, List, [], ◌∷◌, refl, sym, ap, subst, ◌∙◌, length, get_or, arith, nat_eq}, lemmas.Bool.{eqb-false, eqb-true}}, specs.Prelude.{Bool, false, if◌then◌else◌, Option, None}}
-use Rattle.pm_board.{specs.{pm_facts.Bools.by_test, pm_exit.declared.child.Kind.Kind, declared.{views.{Offer.Offer, RosterNotes.RosterNotes, RosterStep.RosterStep, RosterView.RosterView, Sight.TheVariants.Unused, SlotView.SlotView}, roster.Released.Released}, Gate.gate_of, Models.SlotBecame, Places.{IsReaped, is_connection, slot_at}}, proofs.BoardLaws.no_connection}
+use Rattle.pm_board.{specs.{pm_facts.Bools.by_test, pm_exit.declared.child.Kind.Kind, pm_board_words.declared.views.{Offer.Offer, RosterNotes.RosterNotes, RosterStep.RosterStep, RosterView.RosterView, Sight.TheVariants.Unused, SlotView.SlotView}, declared.roster.Released.Released, Gate.gate_of, Models.SlotBecame, Places.{IsReaped, is_connection, slot_at}}, proofs.BoardLaws.no_connection}
 use Rattle.pm_supervisor_journal.specs.{pm_state.declared.action.Action.Action, declared.roll.Enrolled.Enrolled, Standing.{Standing, act_for}}
 use Rattle.pm_supervisor_journal.specs.pm_state.declared.action.Action.TheVariants as action
-use Rattle.pm_board.specs.declared.views.Letter as Letter
+use Rattle.pm_board.specs.pm_board_words.declared.views.Letter as Letter
 use Rattle.pm_board_acts.{specs.{Acts.{MayDo, Performs, slot_of, steps_for}, Board.{SeenAs, after_steps, seat_at}, Seating.Move, Sitting.{AreReaped, HasReaped, StillRuns}, Standing.IsSeated}, proofs.{Acting.same-numbers, Sends.same-slots}}
 use Rattle.pm_supervisor_journal.specs.declared.act.Act.TheVariants as act
 

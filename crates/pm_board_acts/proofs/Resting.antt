@@ -2,7 +2,7 @@
 use Rattle.std.{proofs.Common.{◌≡◌, ℕ, List, [], ◌∷◌, refl, sym, ap, subst, ◌∙◌, length}, specs.{Prelude.{Bool, true, false, ◌||◌, if◌then◌else◌, Option, Some}, Option.unwrap_or}}
 use Rattle.pm_board.specs.{pm_exit.declared.child.Kind.Kind, pm_supervisor.{declared.Limits.Limits, Between.all_detached, Children.Child, Steps.Trace}, Gate.{Gate, gate_of}, declared.roster.Released.Released}
 use Rattle.pm_supervisor_journal.{specs.{pm_state.{declared.{action.Action.Action, event.PmEvent.PmEvent}, Laws.TellsOfEachStart, Machine.IsReady, Starts.{Owes, has_end}, Shows.{Call, Exits, IsFit}, InStep.IsInStep, Journal.{acts_of_call, all_replayed, replay_begun}}, declared.{roll.Enrolled.Enrolled, exit.ChildExit.ChildExit}, Laws.KeepsALegalJournal, Roll.{kind_in, roll_of, without}, Standing.{IsAtRest, Standing, all_noted, called, ends_redo, exit_call, exit_entry, exiting, later, made, redo_entries}, Stands.Stands}, proofs.{RollLaws.on-roll, NextsLaws.noted-due}}
-use Rattle.pm_board.specs.declared.views.Letter as Letter
+use Rattle.pm_board.specs.pm_board_words.declared.views.Letter as Letter
 use Rattle.pm_board_acts.{specs.{Board.seat_at, Calls.exit_of, Sitting.HasReaped, Acts.{StartsAfresh, MayDo, gate_by, gate_shown, roll_behind}, Seating.{Move, journal_of}, Standing.{IsAt, IsRunning, View}}, proofs.{Afresh.afresh_exited, Calling.on_the_roll, Turning.calls_may}}
 use Rattle.pm_supervisor_journal.specs.pm_state.declared.event.PmEvent.TheVariants as entry
 

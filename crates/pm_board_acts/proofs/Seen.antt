@@ -1,6 +1,6 @@
 -- Who sits where, as the roster's own list has it.
 use Rattle.std.{proofs.{Common.{◌≡◌, ℕ, ◌<◌, ◌∙◌, [], sym, ap, subst, set, map, length}, lemmas.List.{get_or-map, map-set, length-map}}, specs.Prelude.{Option, None}}
-use Rattle.pm_board.specs.{pm_exit.declared.child.Kind.Kind, declared.views.{RosterView.RosterView, Sight.TheVariants.Unused}, Children.{child_in_slot, child_seen, children_of}, Places.{slot_at, slot_view}}
+use Rattle.pm_board.specs.{pm_exit.declared.child.Kind.Kind, pm_board_words.declared.views.{RosterView.RosterView, Sight.TheVariants.Unused}, Children.{child_in_slot, child_seen, children_of}, Places.{slot_at, slot_view}}
 use Rattle.pm_board_acts.specs.Board.{enrolled, seat_at, seats_of}
 
 module _ {D : Type 0} where

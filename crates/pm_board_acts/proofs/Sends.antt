@@ -1,7 +1,7 @@
 -- Steps at a board that change no slot.
 use Rattle.std.{proofs.{Common.{◌≡◌, ℕ, ◌+◌, ◌<◌, List, [], ◌∷◌, ◌++◌, refl, sym, ap, subst, ◌∙◌, append_assoc, append-nil, length, get_or, map, take, arith}, lemmas.List.{length-take-le, take_more}}, specs.Prelude.{Bool, true, false, Option, Some, None, if◌then◌else◌}}
 use Rattle.pm_supervisor_journal.specs.declared.roll.Enrolled.{Enrolled}
-use Rattle.pm_board.specs.{declared.views.{RosterStep.{RosterStep, TheVariants.Send}, RosterView.RosterView, Sight.TheVariants.Unused, SlotView.SlotView, Signal.Signal}, Children.children_of, Places.{slot_at, slot_view, IsAssigned}, Told.after_step, Models.HasSent}
+use Rattle.pm_board.specs.{pm_board_words.declared.views.{RosterStep.{RosterStep, TheVariants.Send}, RosterView.RosterView, Sight.TheVariants.Unused, SlotView.SlotView, Signal.Signal}, Children.children_of, Places.{slot_at, slot_view, IsAssigned}, Told.after_step, Models.HasSent}
 use Rattle.pm_board_acts.specs.{declared.audience.Audience.Audience, Seating.{Seating, is_meant, is_told, send_to, sends, sends_from}, Board.{SeenAs, Shows, after_steps, enrolled, seat_at, seats_of}, Sitting.Sits}
 
 module _ {D : Type 0} where

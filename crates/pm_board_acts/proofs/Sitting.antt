@@ -1,8 +1,8 @@
 -- A child that sits down, and one that is gone.
 use Rattle.std.{proofs.{Common.{◌≡◌, ◌≢◌, ℕ, ◌<◌, ◌≤◌, List, [], ◌∷◌, ◌++◌, refl, sym, ap, subst, ◌∙◌, length, set, map, nat_eq, append-nil, length-set}, lemmas.{List.{get_or-set_same, get_or-set_other, map-append}, Bool.{eqb-true, eqb-false, ne_eqb, eq-eqb}}}, specs.Prelude.{Bool, true, false, ◌==◌, if◌then◌else◌, Option, Some, None}}
-use Rattle.pm_board.specs.{pm_facts.{Lists.set_set, Bools.by_test}, pm_exit.declared.child.{Kind.Kind, Status.Status}, declared.{views.{PastChild.PastChild, RosterNotes.RosterNotes, RosterView.RosterView, SlotView.SlotView}, roster.Released.Released}, Places.{slot_at, EndsWell}, Told.{with_slot, exited_slot, released_slot, past_child, noted_look, noted_release}, Models.SlotBecame}
+use Rattle.pm_board.specs.{pm_facts.{Lists.set_set, Bools.by_test}, pm_exit.declared.child.{Kind.Kind, Status.Status}, pm_board_words.declared.views.{PastChild.PastChild, RosterNotes.RosterNotes, RosterView.RosterView, SlotView.SlotView}, declared.roster.Released.Released, Places.{slot_at, EndsWell}, Told.{with_slot, exited_slot, released_slot, past_child, noted_look, noted_release}, Models.SlotBecame}
 use Rattle.pm_supervisor_journal.specs.{declared.roll.Enrolled.Enrolled, pm_state.declared.event.PmEvent.PmEvent}
-use Rattle.pm_board.specs.declared.views.Letter as Letter
+use Rattle.pm_board.specs.pm_board_words.declared.views.Letter as Letter
 use Rattle.pm_board_acts.{specs.{Seating.{Seating, Move, Notes, Begun, Ended, with_seat, begins, ends, begun_at, ended_at, begun_by, ended_by, seating_of}, Board.{SeenAs, Shows, begun_of, ended_of, seat_at, sitting}, Sitting.{Sits, HasReaped}, Standing.{HasHad, SeatServes}}, proofs.{FoldingLaws.{begun-more, ended-more}, Rightly.{right_begun, right_none}}}
 
 module _ {D : Type 0} where

@@ -1,12 +1,12 @@
 -- When the acts that are due may be done at the board.
 use Rattle.std.specs.{Prelude.{◌≡◌, ◌≢◌, ℕ, ◌+◌, ◌<◌, ◌≤◌, Bool, true, false, not, ◌||◌, if◌then◌else◌, List, [], ◌∷◌, Option, None, Some, Result, Ok, length, slice_set}, List.AllByRecursion}
-use Rattle.pm_board.specs.{pm_exit.declared.child.Kind.Kind, pm_supervisor.{Children.is_startup_child, Supervisor.Shared}, Gate.Gate, Places.{is_auxiliary, MayAssign, lost, slot_at, used_in}, Told.MayQuit, Models.{HasAssigned, MayOpen}, declared.views.{RosterStep.RosterStep, RosterView.RosterView}}
+use Rattle.pm_board.specs.{pm_exit.declared.child.Kind.Kind, pm_supervisor.{Children.is_startup_child, Supervisor.Shared}, Gate.Gate, Places.{is_auxiliary, MayAssign, lost, slot_at, used_in}, pm_board_words.{GateWords.MayQuit, declared.views.{RosterStep.RosterStep, RosterView.RosterView}}, Models.{HasAssigned, MayOpen}}
 use Rattle.pm_board.specs.pm_exit.declared.child.Kind.TheVariants as kind
 use Rattle.pm_state.specs.{pm_modes.Strength.is_immediate, declared.{action.Action.Action, machine.Machine.Machine}, Facts.is_init, Shows.{Call, Exits}, TurnRules.is_not_running}
 use Rattle.pm_state.specs.declared.action.Action.TheVariants as action
 use Rattle.pm_supervisor_journal.specs.{Roll.without, declared.{act.{Act.Act, GenerationsSpent.GenerationsSpent}, roll.Enrolled.Enrolled}}
-use Rattle.pm_board.specs.declared.views.RosterStep.TheVariants as step
-use Rattle.pm_board.specs.declared.views.Signal.TheVariants as signal
+use Rattle.pm_board.specs.pm_board_words.declared.views.RosterStep.TheVariants as step
+use Rattle.pm_board.specs.pm_board_words.declared.views.Signal.TheVariants as signal
 use Rattle.pm_supervisor_journal.specs.declared.act.Act.TheVariants as act
 use Rattle.pm_board_acts.specs.{Board.{Shows, after_steps, seats_of}, Seating.sends, declared.audience.Audience.TheVariants.{Everyone, Stoppable, Checkpointer}}
 

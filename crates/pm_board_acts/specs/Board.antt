@@ -1,6 +1,6 @@
 -- What a roster knows, beside a seating.
 use Rattle.std.specs.Prelude.{◌≡◌, ℕ, ◌<◌, ◌≤◌, List, [], ◌∷◌, map, Option, Some, None, length, slice_index_or}
-use Rattle.pm_board.specs.{pm_exit.declared.child.Kind.Kind, declared.views.{Offer.Offer, PastChild.PastChild, RosterStep.RosterStep, RosterView.RosterView, Sight.{Sight, TheVariants.{Unused, Assigned}}}, Children.children_of, Places.slot_at, Told.after_step}
+use Rattle.pm_board.specs.{pm_exit.declared.child.Kind.Kind, pm_board_words.declared.views.{Offer.Offer, PastChild.PastChild, RosterStep.RosterStep, RosterView.RosterView, Sight.{Sight, TheVariants.{Unused, Assigned}}}, Children.children_of, Places.slot_at, Told.after_step}
 use Rattle.pm_supervisor_journal.specs.declared.roll.Enrolled.{Enrolled}
 use Rattle.pm_board_acts.specs.Seating.{Seating, Begun, Ended}
 

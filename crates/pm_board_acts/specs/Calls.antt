@@ -3,7 +3,7 @@ use Rattle.std.specs.Prelude.{◌≡◌, ℕ, if◌then◌else◌, List, [], ◌
 use Rattle.pm_board.specs.{pm_exit.{declared.child.{Kind.Kind, Status.Status}, Ends.is_exit_0}, pm_supervisor.{declared.Limits.Limits, Children.is_startup_child}, declared.roster.Released.Released}
 use Rattle.pm_state.specs.{declared.{event.PmEvent.PmEvent, action.Action.Action}, pm_modes.declared.Mode.Mode}
 use Rattle.pm_state.specs.declared.event.PmEvent.TheVariants as entry
-use Rattle.pm_board.specs.declared.views.Letter as Letter
+use Rattle.pm_board.specs.pm_board_words.declared.views.Letter as Letter
 use Rattle.pm_supervisor_journal.specs.{declared.{roll.Enrolled.Enrolled, act.{Act.Act, GenerationsSpent.GenerationsSpent}, exit.ChildExit.ChildExit}, Standing.{Making, Standing, entry_for, first_due, exiting, made, next_pid, decision_on}}
 use Rattle.pm_board_acts.specs.{declared.desk.Looked.{Looked, TheVariants.{Nothing, Ended, ShortOfMemory}}, Sitting.{HasFoundNone, HasReaped, KeepsPast}, Acts.slot_of, Seating.{Move, Notes, Reads, PortEnds, PidsEnd, Stop}, Standing.{View, Goes, IsAt, IsEnding}}
 use Rattle.pm_state.specs.declared.action.Action.TheVariants as action

@@ -3,7 +3,7 @@ use Rattle.std.specs.{Prelude.{◌≡◌, ◌≢◌, ℕ, ◌+◌, ◌≤◌, Bo
 use Rattle.pm_state.specs.{pm_modes.declared.Mode.Mode, pm_supervisor.Children.one_if, declared.event.PmEvent.PmEvent}
 use Rattle.pm_state.specs.pm_modes.declared.Mode.TheVariants as mode
 use Rattle.pm_state.specs.declared.event.PmEvent.TheVariants as entry
-use Rattle.pm_worker.specs.{pm_outside.Visits.{Visit, Visits}, pm_query.declared.book.BookEntry.BookEntry, pm_board.declared.views.RosterView.RosterView}
+use Rattle.pm_worker.specs.{pm_outside.Visits.{Visit, Visits}, pm_query.declared.book.BookEntry.BookEntry, pm_board.pm_board_words.declared.views.RosterView.RosterView}
 use Rattle.pm_supervisor_chain.specs.{Chain.{RedosEnd, UsersWereStarted, AttachOnce, attached_of}}
 use Rattle.pm_board_acts.specs.Seating.{Move, Notes, Reads, PortEnds, PidsEnd, Request, Nothing, Stop, Kill}
 

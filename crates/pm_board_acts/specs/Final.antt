@@ -1,7 +1,7 @@
 -- What comes after the last entry: the final Kill, and the last releases.
 use Rattle.std.specs.Prelude.{◌≡◌, ℕ, ◌<◌, ◌≤◌, Bool, true, false, List, map, None, length, slice_set}
-use Rattle.pm_board.specs.{pm_supervisor.declared.Limits.Limits, declared.views.{RosterView.RosterView, Sight.TheVariants.Unused}, Places.slot_at}
-use Rattle.pm_board.specs.declared.views.Letter as Letter
+use Rattle.pm_board.specs.{pm_supervisor.declared.Limits.Limits, pm_board_words.declared.views.{RosterView.RosterView, Sight.TheVariants.Unused}, Places.slot_at}
+use Rattle.pm_board.specs.pm_board_words.declared.views.Letter as Letter
 use Rattle.pm_supervisor_journal.specs.{declared.roll.Enrolled.Enrolled, Stands.{AtWork, highest_pid}}
 use Rattle.pm_board_acts.specs.{declared.finish.Rest.Rest, Board.{begun_of, seat_at, seats_of}, Calls.IsCutOff, Seating.{Move, Seating, begun_at}, Sitting.{HasReaped, StillRuns}, Standing.{IsAt, IsBoardOf, IsEnding, view}}
 use Rattle.pm_board_acts.specs.declared.finish.Rest.TheVariants as rest

@@ -1,7 +1,7 @@
 -- The laws, one for each function of `chained.rt`, whose contract it is.
 use Rattle.std.specs.{Prelude.{◌≡◌, ℕ, List, [], ◌∷◌, length}, List.AllByRecursion}
 use Rattle.pm_supervisor_chain.specs.Steps.{ChildRun}
-use Rattle.pm_board.specs.{declared.views.RosterView.RosterView, pm_supervisor.{declared.Limits.Limits, Steps.Trace}}
+use Rattle.pm_board.specs.{pm_board_words.declared.views.RosterView.RosterView, pm_supervisor.{declared.Limits.Limits, Steps.Trace}}
 use Rattle.pm_supervisor_journal.specs.{pm_state.{declared.machine.Machine.Machine, InStep.{ServerState, IsInStep}, Journal.acts_of_call, Shows.{Call, IsFit}}, Stands.behind, Roll.roll_of}
 use Rattle.pm_board_acts.specs.{Acts.{MayDo, gate_by, gate_shown, roll_behind}, Seating.{Move, Reads, Request, asked_by, journal_of}, Standing.{Goes, IsBoardOf, View}, Runs.{AreGatheredRuns, EndsAreRuns, IsOnBoard}}
 

@@ -1,6 +1,6 @@
 -- What workers tell of the children that they ran, and how that is tied to the journal.
 use Rattle.std.specs.{Prelude.{◌≡◌, ◌⊎◌, ℕ, ◌<◌, ◌==◌, Bool, true, false, List, [], ◌∷◌, map, length}, List.AllByRecursion}
-use Rattle.pm_board.specs.{pm_exit.declared.child.Status.Status, declared.views.{PastChild.PastChild, RosterView.RosterView}, Places.{is_auxiliary, slot_at}}
+use Rattle.pm_board.specs.{pm_exit.declared.child.Status.Status, pm_board_words.declared.views.{PastChild.PastChild, RosterView.RosterView}, Places.{is_auxiliary, slot_at}}
 use Rattle.pm_board.specs.pm_exit.declared.child.Status.TheVariants as status
 use Rattle.pm_supervisor_chain.specs.{pm_state.declared.event.PmEvent.PmEvent, Steps.ChildRun}
 use Rattle.pm_board_acts.specs.{Seating.{Move, Notes, Begun, Ended, ends}, Board.{begun_of, ended_of}}

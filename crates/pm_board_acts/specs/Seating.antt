@@ -1,12 +1,12 @@
 -- Which child sits in which slot, as the entries of a journal leave it, and which steps at the board each entry is.
 use Rattle.std.specs.{Prelude.{ℕ, ◌+◌, Bool, true, false, ◌==◌, if◌then◌else◌, List, [], ◌∷◌, ◌++◌, Option, Some, None, replicate, slice_set}, List.flat_map}
-use Rattle.pm_board.specs.{pm_exit.declared.child.{Kind.Kind, Status.Status}, pm_supervisor.{Children.is_checkpointer, Steps.kind_for}, declared.views.{RosterStep.RosterStep, Signal.Signal}}
+use Rattle.pm_board.specs.{pm_exit.declared.child.{Kind.Kind, Status.Status}, pm_supervisor.{Children.is_checkpointer, Steps.kind_for}, pm_board_words.declared.views.{RosterStep.RosterStep, Signal.Signal}}
 use Rattle.pm_board.specs.pm_exit.declared.child.Kind.TheVariants as kind
 use Rattle.pm_state.specs.{pm_modes.declared.Mode.Mode, declared.event.PmEvent.PmEvent}
 use Rattle.pm_state.specs.pm_modes.declared.Mode.TheVariants as mode
 use Rattle.pm_state.specs.declared.event.PmEvent.TheVariants as entry
-use Rattle.pm_board.specs.declared.views.RosterStep.TheVariants as step
-use Rattle.pm_board.specs.declared.views.Signal.TheVariants as signal
+use Rattle.pm_board.specs.pm_board_words.declared.views.RosterStep.TheVariants as step
+use Rattle.pm_board.specs.pm_board_words.declared.views.Signal.TheVariants as signal
 use Rattle.pm_supervisor_journal.specs.declared.roll.Enrolled.{Enrolled}
 use Rattle.pm_board_acts.specs.declared.audience.Audience.{Audience, TheVariants.{Everyone, Stoppable, Checkpointer, One}}
 

@@ -1,8 +1,8 @@
 -- What a look at a slot comes to.
 use Rattle.std.specs.Prelude.{◌≡◌, ◌⊎◌, ℕ, ◌<◌}
 use Rattle.pm_supervisor_journal.specs.declared.roll.Enrolled.{Enrolled}
-use Rattle.pm_board.specs.{declared.{views.{Offer.Offer, RosterView.RosterView, Sight.TheVariants.Assigned}, roster.Released.Released}, Places.{EndsWell, IsReaped, slot_at}, Told.{running_slot, released_slot, past_child, noted_look, noted_release}, Models.SlotBecame}
-use Rattle.pm_board.specs.declared.views.Letter as Letter
+use Rattle.pm_board.specs.{pm_board_words.declared.views.{Offer.Offer, RosterView.RosterView, Sight.TheVariants.Assigned}, declared.roster.Released.Released, Places.{EndsWell, IsReaped, slot_at}, Told.{running_slot, released_slot, past_child, noted_look, noted_release}, Models.SlotBecame}
+use Rattle.pm_board.specs.pm_board_words.declared.views.Letter as Letter
 
 module _ {D : Type 0} where
   -- this child sits in the slot k

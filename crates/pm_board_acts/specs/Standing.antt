@@ -1,9 +1,9 @@
 -- What holds of a supervisor at work with its board, at every moment.
 use Rattle.std.specs.{Prelude.{◌≡◌, ℕ, ◌<◌, ◌≤◌, ◌==◌, if◌then◌else◌, List, [], ◌∷◌, ◌++◌, map, Option, Some, None, IfSome, length}, List.AllByRecursion}
-use Rattle.pm_board.specs.{pm_exit.declared.child.Kind.Kind, pm_supervisor.{declared.Limits.Limits, Steps.Trace}, declared.views.{SessionLimit.SessionLimit, RosterStep.RosterStep, RosterView.RosterView}, Places.{slot_at, SlotServes}, Told.new_roster, Gate.gate_of}
+use Rattle.pm_board.specs.{pm_exit.declared.child.Kind.Kind, pm_supervisor.{declared.Limits.Limits, Steps.Trace}, pm_board_words.declared.views.{SessionLimit.SessionLimit, RosterStep.RosterStep, RosterView.RosterView}, Places.{slot_at, SlotServes}, Told.new_roster, Gate.gate_of}
 use Rattle.pm_board.specs.pm_exit.declared.child.Kind.TheVariants as kind
-use Rattle.pm_board.specs.declared.views.RosterStep.TheVariants as step
-use Rattle.pm_board.specs.declared.views.Signal.TheVariants as signal
+use Rattle.pm_board.specs.pm_board_words.declared.views.RosterStep.TheVariants as step
+use Rattle.pm_board.specs.pm_board_words.declared.views.Signal.TheVariants as signal
 use Rattle.pm_supervisor_journal.specs.{declared.roll.Enrolled.Enrolled, Roll.kind_in, Standing.{Standing, nothing_done}, Stands.{AtWork, Stands}}
 use Rattle.pm_board_acts.specs.{Seating.{Move, Seating, Begun, Ended, child, journal_of, seating_of, board_steps, begun_at, ended_at}, Acts.{MayDo, StartsAfresh, gate_by, gate_shown}, Board.{Shows, begun_of, ended_of, seat_at, seats_of, sitting}}
 

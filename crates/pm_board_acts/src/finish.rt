@@ -1,6 +1,6 @@
 //! The end of a supervisor: after its last entry the children that are left are killed and released.
 ghost use Rattle.std.specs.Prelude.{◌≡◌, ◌+◌, ◌<◌, ℕ, false, length};
-ghost use Rattle.pm_board.specs.declared.views.Signal.TheVariants as signal;
+ghost use Rattle.pm_board.specs.pm_board_words.declared.views.Signal.TheVariants as signal;
 ghost use Rattle.pm_board_acts.specs.{Acts.ShowsNow, Board.{after_steps, seats_of}, Final.{AreFree, EndsWithNobody, HasFound, KeepsEnding, MayEndAnywhere, is_running}, Seating.sends, declared.audience.Audience.TheVariants.Everyone};
 
 use crate::audience::Audience;

@@ -1,7 +1,7 @@
 //! Signals to the children that sit on a board.
 ghost use Rattle.std.specs.Prelude.{◌≡◌, ◌∷◌};
-ghost use Rattle.pm_board.specs.declared.views.RosterStep.TheVariants as step;
-ghost use Rattle.pm_board.specs.Told.{MayQuit};
+ghost use Rattle.pm_board.specs.pm_board_words.declared.views.RosterStep.TheVariants as step;
+ghost use Rattle.pm_board.specs.pm_board_words.GateWords.{MayQuit};
 ghost use Rattle.pm_board_acts.specs.{Acts.ShowsNow, Board.{after_steps, seats_of}, Seating.sends, declared.audience.Audience.TheVariants.Everyone};
 
 use crate::audience::Audience;

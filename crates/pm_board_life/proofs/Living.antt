@@ -1,7 +1,7 @@
 -- A child that runs on a post, as its life knows it.
 use Rattle.std.{proofs.{Common.{arith, ℕ, ◌≡◌, ◌+◌, inl, inr, ◌∙◌, ◌++◌, Bool, true, false, List, [], ◌∷◌, Option, Some, None, length, ap, sym, refl, subst}, lemmas.{List.{append-nil, append_assoc}, Grind.fold-append}}, specs.{Prelude.{IsTrue, Result, Ok, Err, not, nat_lt, if◌then◌else◌}, Option.option_to_list}}
 use Rattle.pm_gate.specs.{pm_supervisor.{Children.{is_dead_end, is_session}, declared.Reason.Reason}, declared.tokens.Attached.Attached as Token, Attaching.{IsAttachedIn, HasAttached, HasLeft, answer_of, after_attach}}
-use Rattle.pm_board.specs.{pm_child_life.{declared.life.{Cancelled.{Cancelled, TheVariants.{Sent, NoSuchPid, WrongKey}}, Attempt.Attempt, GateNo.{GateNo, TheVariants.{NotReady, TooMany, Reserved}}, Signals.Signals}, Life.{Told, attempt, nothing_told, asked_again, let_go}}, Slots.child_slots, declared.views.{SessionLimit.SessionLimit, Cancel.Cancel, Heard.Heard, LatchLook.LatchLook, Offer.Offer, PostView.PostView, Work.{Work, TheVariants.{Idle, Sees, Inactive, Active, Refused, Attached}}}, Gate.{answer_to, gate_answer, session_answer, reserve_by, generation_in, notice_in, open_in, sessions_in}, Told.{child_in, answered}, Models.{PostModel, MayAttach, RunsChild, cancel_of}, Rule.no_signals}
+use Rattle.pm_board.specs.{pm_child_life.{declared.life.{Cancelled.{Cancelled, TheVariants.{Sent, NoSuchPid, WrongKey}}, Attempt.Attempt, GateNo.{GateNo, TheVariants.{NotReady, TooMany, Reserved}}, Signals.Signals}, Life.{Told, attempt, nothing_told, asked_again, let_go}}, Slots.child_slots, pm_board_words.{declared.views.{SessionLimit.SessionLimit, Cancel.Cancel, Heard.Heard, LatchLook.LatchLook, Offer.Offer, PostView.PostView, Work.{Work, TheVariants.{Idle, Sees, Inactive, Active, Refused, Attached}}}, GateWords.{answer_to, gate_answer, session_answer, reserve_by, generation_in, notice_in, open_in, sessions_in}}, Told.{child_in, answered}, Models.{PostModel, MayAttach, RunsChild, cancel_of}, Rule.no_signals}
 use Rattle.pm_latch.specs.{Taking.HasTaken, Cancelling.{HasAsked, looks_from, request}}
 use Rattle.pm_board_life.specs.Lives.{Beginning, LifeModel, beginning, child_by, told_in_turn, told_by, IsAnswerTo, MetRightly, Makes, LivesAs, IsLiving, GoesOn, GoesOnFrom}
 

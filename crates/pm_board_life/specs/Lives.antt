@@ -1,7 +1,7 @@
 -- What the life of a child tells that runs on a post.
 use Rattle.std.specs.{Prelude.{◌≡◌, ◌⊎◌, ℕ, ◌<◌, Bool, true, false, List, [], ◌∷◌, ◌++◌, Option, Some, None, Result, Ok, Err, IfSome, length}, List.fold, Option.option_to_list}
 use Rattle.pm_gate.specs.{pm_supervisor.Children.{is_dead_end, is_session}, declared.tokens.Attached.Attached as Token}
-use Rattle.pm_board.specs.{pm_child_life.{declared.life.{Attempt.Attempt, GateNo.{GateNo, TheVariants.{Quit, NotReady, TooMany, Reserved}}, Signals.Signals}, Life.{Child, Told, nothing_told, asked_again}}, Slots.child_slots, declared.views.{Cancel.Cancel, Heard.Heard, LatchLook.LatchLook, Offer.Offer, Work.{Work, TheVariants.{Idle, Sees, Inactive, Active, Refused, Attached}}}, Latch.latch_pid, Told.child_in, Models.{PostModel, cancel_of}}
+use Rattle.pm_board.specs.{pm_child_life.{declared.life.{Attempt.Attempt, GateNo.{GateNo, TheVariants.{Quit, NotReady, TooMany, Reserved}}, Signals.Signals}, Life.{Child, Told, nothing_told, asked_again}}, Slots.child_slots, pm_board_words.{declared.views.{Cancel.Cancel, Heard.Heard, LatchLook.LatchLook, Offer.Offer, Work.{Work, TheVariants.{Idle, Sees, Inactive, Active, Refused, Attached}}}, Latch.latch_pid}, Told.child_in, Models.{PostModel, cancel_of}}
 use Rattle.pm_latch.specs.Cancelling.{Request, request, HasKey, looks_from, NoneFor}
 
 -- ---- what it was told

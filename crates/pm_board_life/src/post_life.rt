@@ -1,6 +1,6 @@
 //! The life of a child that runs on a post.
 ghost use Rattle.std.specs.Prelude.{◌≡◌, Some, None, Option};
-ghost use Rattle.pm_board.specs.{declared.views.{Work.TheVariants.Inactive, Offer.Offer}, Rule.no_signals};
+ghost use Rattle.pm_board.specs.{pm_board_words.declared.views.{Work.TheVariants.Inactive, Offer.Offer}, Rule.no_signals};
 ghost use Rattle.pm_board_life.specs.Lives.{Beginning, LifeModel, LivesAs, GoesOnFrom, IsLiving, beginning};
 
 use pm_board::{Letter, Post};

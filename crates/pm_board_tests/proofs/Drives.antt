@@ -3,7 +3,7 @@ use Rattle.std.proofs.{Common.{◌≡◌, ℕ, ◌<◌, ◌≤◌, [], length, s
 use mathlib.Core.Logic.{dite}
 use native.Mathlib.Decide.{ℕ_discrete}
 use Rattle.std.specs.Prelude.{true, false}
-use Rattle.pm_board.specs.{pm_facts.Lists.same_everywhere, pm_exit.declared.child.Kind.Kind, declared.views.{SessionLimit.SessionLimit, RosterNotes.RosterNotes, RosterView.RosterView, Sight.{Sight, TheVariants.Unused}, SlotView.SlotView}, Places.{slot_at, slot_view, is_auxiliary, IsReaped, MayAssign}, Told.new_roster, Models.SlotBecame}
+use Rattle.pm_board.specs.{pm_facts.Lists.same_everywhere, pm_exit.declared.child.Kind.Kind, pm_board_words.declared.views.{SessionLimit.SessionLimit, RosterNotes.RosterNotes, RosterView.RosterView, Sight.{Sight, TheVariants.Unused}, SlotView.SlotView}, Places.{slot_at, slot_view, is_auxiliary, IsReaped, MayAssign}, Told.new_roster, Models.SlotBecame}
 use Rattle.pm_board_tests.specs.Drive.{Sees, IsFree, ServesFrom}
 
 pub may_assign : (d : RosterView ℕ) (last pid : ℕ) (kind : Kind) → IsFree d last → ServesFrom 9 4 kind → is_auxiliary kind ≡ false → last < pid → pid < 2147483648 → MayAssign d 4 pid kind

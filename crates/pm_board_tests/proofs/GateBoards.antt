@@ -3,7 +3,7 @@ use Rattle.std.proofs.{Common.{◌≡◌, ℕ, suc, ◌+◌, ◌<◌, ◌≤◌,
 use mathlib.Core.Logic.{dite}
 use native.Mathlib.Decide.{ℕ_discrete, dec_le}
 use Rattle.std.specs.Prelude.{true, false, Option, Some, None, IfSome, MatchOption}
-use Rattle.pm_board.specs.{pm_facts.Lists.same_everywhere, pm_exit.declared.child.Kind.Kind, declared.views.{SessionLimit.SessionLimit, Offer.Offer, RosterNotes.RosterNotes, RosterStep.RosterStep, RosterView.RosterView, Sight.{Sight, TheVariants.{Unused, Assigned}}, SlotView.SlotView, Work.TheVariants.Idle}, Places.{slot_at, slot_view, lost, is_auxiliary, is_connection, SlotServes, IsReaped, MayAssign, is_used, used_in}, Words.bit, Gate.gate_of, Told.{new_roster, after_step}, Models.{PostModel, SlotBecame, AreNewPosts, MayOpen, MayReset}, Posts.AllIdle}
+use Rattle.pm_board.specs.{pm_facts.Lists.same_everywhere, pm_exit.declared.child.Kind.Kind, pm_board_words.{declared.views.{SessionLimit.SessionLimit, Offer.Offer, RosterNotes.RosterNotes, RosterStep.RosterStep, RosterView.RosterView, Sight.{Sight, TheVariants.{Unused, Assigned}}, SlotView.SlotView, Work.TheVariants.Idle}, Words.bit}, Places.{slot_at, slot_view, lost, is_auxiliary, is_connection, SlotServes, IsReaped, MayAssign, is_used, used_in}, Gate.gate_of, Told.{new_roster, after_step}, Models.{PostModel, SlotBecame, AreNewPosts, MayOpen, MayReset}, Posts.AllIdle}
 use Rattle.atomic_table.specs.Seated.{TableId}
 use Rattle.pm_board_tests.specs.GateChildren.{HasChildren, IsEmpty, IsUntouched, IsAtSlot, HasBegun, HasReaped, HasVisited}
 

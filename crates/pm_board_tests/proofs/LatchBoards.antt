@@ -1,6 +1,6 @@
 -- How the board of the tests moves.
 use Rattle.std.proofs.{Common.{◌≡◌, ◌≢◌, ℕ, ◌+◌, ◌<◌, ◌≤◌, [], length, sym, refl, ap, ◌∙◌, subst, arith}, lemmas.List.length-replicate}
-use Rattle.pm_board.specs.{pm_facts.Lists.same_everywhere, declared.views.{SessionLimit.SessionLimit, Offer.Offer, RosterNotes.RosterNotes, RosterStep.RosterStep, RosterView.RosterView, Sight.TheVariants.{Unused, Assigned}, SlotView.SlotView}, Places.{slot_view, IsAssigned}, Told.{new_roster, after_step}, Models.SlotBecame}
+use Rattle.pm_board.specs.{pm_facts.Lists.same_everywhere, pm_board_words.declared.views.{SessionLimit.SessionLimit, Offer.Offer, RosterNotes.RosterNotes, RosterStep.RosterStep, RosterView.RosterView, Sight.TheVariants.{Unused, Assigned}, SlotView.SlotView}, Places.{slot_view, IsAssigned}, Told.{new_roster, after_step}, Models.SlotBecame}
 use Rattle.pm_board_tests.specs.LatchChildren.{IsNew, CanBegin, IsBusy, Changed, HasBegun, HasStayed, HasFinished, TakesTurns, Waits}
 
 pub is_new : (d : RosterView ℕ) (limit : SessionLimit) (dealt : ℕ) → d ≡ new_roster 9 limit dealt → IsNew d

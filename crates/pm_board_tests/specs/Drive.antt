@@ -1,6 +1,6 @@
 -- What the tests know of a board of at least nine slots, of which the fifth is driven.
 use Rattle.std.specs.Prelude.{◌≡◌, ◌≢◌, ◌≤◌, ℕ, Bool, length}
-use Rattle.pm_board.specs.{pm_exit.declared.child.{Kind.Kind, Status.Status}, declared.views.{Offer.Offer, RosterView.RosterView, Sight.{Sight, TheVariants.{Unused, Assigned, Exited}}}, Places.{slot_at, SlotServes}}
+use Rattle.pm_board.specs.{pm_exit.declared.child.{Kind.Kind, Status.Status}, pm_board_words.declared.views.{Offer.Offer, RosterView.RosterView, Sight.{Sight, TheVariants.{Unused, Assigned, Exited}}}, Places.{slot_at, SlotServes}}
 
 -- this is what the supervisor sees of the driven slot, the others are unused, and this is the last pid
 pub record Sees (d : RosterView ℕ) (sight : Sight ℕ) (last : ℕ) : Type 0 where

@@ -1,6 +1,6 @@
 -- What the tests know of a board of fifteen slots, and of the child that runs on a post.
 use Rattle.std.specs.Prelude.{◌≡◌, ◌≢◌, ℕ, ◌<◌, ◌≤◌, true, false, [], None, length}
-use Rattle.pm_board.specs.{pm_exit.declared.child.Kind.Kind, pm_supervisor.Children.is_dead_end, declared.views.{Offer.Offer, RosterView.RosterView, Sight.TheVariants.{Unused, Assigned}, Work.{Work, TheVariants.{Inactive, Attached}}}, Places.{slot_at, slot_view, is_auxiliary}, Gate.{Gate, gate_of}}
+use Rattle.pm_board.specs.{pm_exit.declared.child.Kind.Kind, pm_supervisor.Children.is_dead_end, pm_board_words.declared.views.{Offer.Offer, RosterView.RosterView, Sight.TheVariants.{Unused, Assigned}, Work.{Work, TheVariants.{Inactive, Attached}}}, Places.{slot_at, slot_view, is_auxiliary}, Gate.{Gate, gate_of}}
 
 -- the slots from low to below high have a child each, all others are unused, and this is the last pid
 pub record HasChildren (low high last : ℕ) (d : RosterView ℕ) : Type 0 where

@@ -1,6 +1,6 @@
 -- What the tests know of a board of nine slots.
 use Rattle.std.specs.Prelude.{◌≡◌, ◌≢◌, ℕ, ◌+◌, ◌<◌, ◌≤◌, length}
-use Rattle.pm_board.specs.{declared.views.{Offer.Offer, RosterView.RosterView, Sight.TheVariants.{Unused, Assigned}, Work.{Work, TheVariants.Inactive}}, Places.slot_at}
+use Rattle.pm_board.specs.{pm_board_words.declared.views.{Offer.Offer, RosterView.RosterView, Sight.TheVariants.{Unused, Assigned}, Work.{Work, TheVariants.Inactive}}, Places.slot_at}
 
 -- nine slots, none of which has had a child
 pub record IsNew (d : RosterView ℕ) : Type 0 where

@@ -1,7 +1,7 @@
 //! One slot through a thousand children: each release gives the pid, kind, status and mail that were given, and each of the
 //! thousand waits of its worker is ended by an assign.
 ghost use Rattle.std.specs.Prelude.{◌≡◌, ◌<◌, ◌≤◌, ◌+◌, false, IfOk};
-ghost use Rattle.pm_board.specs.{Words.status_number, Places.is_auxiliary, declared.views.Work.TheVariants.Idle};
+ghost use Rattle.pm_board.specs.{pm_board_words.{Words.status_number, declared.views.Work.TheVariants.Idle}, Places.is_auxiliary};
 ghost use Rattle.pm_board_tests.specs.Drive.{IsFree, ServesFrom};
 
 use crate::notes::Note;

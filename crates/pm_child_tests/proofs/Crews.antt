@@ -1,7 +1,7 @@
 -- How the board of the tests moves.
 use Rattle.std.proofs.{Common.{◌≡◌, ℕ, [], length, sym, ap, ◌∙◌, subst}, lemmas.List.length-replicate}
 use Rattle.pm_query.specs.pm_facts.Lists.{same_everywhere}
-use Rattle.pm_board.specs.{declared.views.{SessionLimit.SessionLimit, RosterNotes.RosterNotes, RosterStep.RosterStep, RosterView.RosterView, Sight.TheVariants.Unused, SlotView.SlotView}, Places.{slot_at, slot_view, IsReaped}, Told.{new_roster, after_step}, Models.SlotBecame}
+use Rattle.pm_board.specs.{pm_board_words.declared.views.{SessionLimit.SessionLimit, RosterNotes.RosterNotes, RosterStep.RosterStep, RosterView.RosterView, Sight.TheVariants.Unused, SlotView.SlotView}, Places.{slot_at, slot_view, IsReaped}, Told.{new_roster, after_step}, Models.SlotBecame}
 use Rattle.pm_child_tests.specs.Crew.{IsSettled, IsManned, IsFresh, HasLookedAt}
 
 -- ---- posts

@@ -1,6 +1,6 @@
 -- What the tests know of a board of 47 slots.
 use Rattle.std.specs.Prelude.{◌≡◌, ◌≢◌, ℕ, ◌<◌, ◌≤◌, [], length}
-use Rattle.pm_board.specs.{declared.views.{RosterView.RosterView, Sight.{Sight, TheVariants.{Unused, Opened, Assigned, Exited, Collected, Gathered}}}, Places.{slot_at, slot_view, IsReaped}}
+use Rattle.pm_board.specs.{pm_board_words.declared.views.{RosterView.RosterView, Sight.{Sight, TheVariants.{Unused, Opened, Assigned, Exited, Collected, Gathered}}}, Places.{slot_at, slot_view, IsReaped}}
 
 module _ {D : Type 0} where
   -- no look has found the end of its child, if it has one

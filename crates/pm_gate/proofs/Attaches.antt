@@ -1,6 +1,6 @@
 -- What a try at the gate leaves, told from before the slot was marked.
 use Rattle.std.{proofs.Common.{◌≡◌, ℕ, sym, ap, ◌∙◌}, specs.Prelude.{Bool, Ok, Err}}
-use Rattle.pm_board.specs.{pm_child_life.{declared.life.GateNo.GateNo, Life.attempt}, declared.views.{Offer.Offer, Work.TheVariants.Active, PostView.PostView}, Gate.{gate_answer, generation_in}, Told.{with_work, tried_by}, Models.HasTried}
+use Rattle.pm_board.specs.{pm_child_life.{declared.life.GateNo.GateNo, Life.attempt}, pm_board_words.{declared.views.{Offer.Offer, Work.TheVariants.Active, PostView.PostView}, GateWords.{gate_answer, generation_in}}, Told.{with_work, tried_by}, Models.HasTried}
 
 module _ {D : Type 0} (w v u : PostView D) (o : Offer D) (is_ordinary : Bool) where
   pub let_in : (g : ℕ) → v ≡ with_work w (Active o) → HasTried (attempt is_ordinary (Ok g)) v u → (word : ℕ) × (Ok g ≡ gate_answer o.kind is_ordinary w.notes.session_limit word) × (u ≡ tried_by w o word (attempt is_ordinary (Ok g))) × (generation_in word ≡ o.generation)

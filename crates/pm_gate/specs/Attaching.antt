@@ -1,6 +1,6 @@
 -- What a child's calls at the gate tell.
 use Rattle.std.specs.Prelude.{◌≡◌, ℕ, Result, Ok, Err}
-use Rattle.pm_board.specs.{pm_child_life.declared.life.{Attempt.Attempt, GateNo.GateNo}, declared.views.{Offer.Offer, Work.{Work, TheVariants.{Inactive, Attached}}, PostView.PostView}, Gate.{gate_answer, generation_in}, Told.{with_work, tried_by, detached}}
+use Rattle.pm_board.specs.{pm_child_life.declared.life.{Attempt.Attempt, GateNo.GateNo}, pm_board_words.{declared.views.{Offer.Offer, Work.{Work, TheVariants.{Inactive, Attached}}, PostView.PostView}, GateWords.{gate_answer, generation_in}}, Told.{with_work, tried_by, detached}}
 use Rattle.pm_gate.specs.declared.tokens.Attached.{Attached as Attached_}
 
 -- the generation of who was let in, or the refusal

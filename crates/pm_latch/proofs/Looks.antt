@@ -1,6 +1,6 @@
 -- One look more.
 use Rattle.std.proofs.{Common.{◌≡◌, ◌≢◌, ℕ, ◌+◌, List, [], ◌∷◌, ◌++◌, length, refl, ap, ◌∙◌, sym, arith}, lemmas.List.append_assoc}
-use Rattle.pm_board.specs.{Latch.latch_pid, declared.views.{LatchLook.LatchLook, PostNotes.PostNotes}, Told.noted_latch_look}
+use Rattle.pm_board.specs.{pm_board_words.{Latch.latch_pid, declared.views.{LatchLook.LatchLook, PostNotes.PostNotes}}, Told.noted_latch_look}
 use Rattle.pm_latch.specs.Cancelling.{looks_from, noted_looks, NoneFor}
 
 looks-append : (k word : ℕ) (words : List ℕ) → looks_from k (words ++ word ∷ []) ≡ looks_from k words ++ record { slot = k + length words; word = word } ∷ []

@@ -1,6 +1,6 @@
 -- What becomes of a request to cancel.
 use Rattle.std.specs.{Prelude.{◌≡◌, ◌≢◌, ℕ, ◌+◌, ◌<◌, ◌≤◌, ◌++◌, List, [], ◌∷◌, length}, List.AllByRecursion}
-use Rattle.pm_board.specs.{pm_keys.CancelKey.cancel_key, pm_child_life.declared.life.Cancelled.{Cancelled, TheVariants.{Sent, NoSuchPid, WrongKey}}, Slots.child_slots, declared.views.{LatchLook.LatchLook, PostNotes.PostNotes}, Latch.latch_pid, Told.{with_notes, noted_cancel}, Models.{PostModel, cancel_of}}
+use Rattle.pm_board.specs.{pm_keys.CancelKey.cancel_key, pm_child_life.declared.life.Cancelled.{Cancelled, TheVariants.{Sent, NoSuchPid, WrongKey}}, Slots.child_slots, pm_board_words.{declared.views.{LatchLook.LatchLook, PostNotes.PostNotes}, Latch.latch_pid}, Told.{with_notes, noted_cancel}, Models.{PostOf, cancel_of}}
 
 -- a request to cancel the query of the child with this pid, and what it is judged by
 pub record Request : Type 0 where
@@ -29,7 +29,7 @@ NoneFor pid words = AllByRecursion (λ word. latch_pid word ≢ pid) words
 
 -- An answer to a request. With the right key the latches were looked at in order, up to the first one that was armed for the
 -- pid, and on that slot the cancel was made
-abbrev pub HasAsked : {D : Type 0} → Request → Cancelled → PostModel D → PostModel D → Type 0
+abbrev pub HasAsked : {D W : Type 0} → Request → Cancelled → PostOf D W → PostOf D W → Type 0
 HasAsked r WrongKey before after = (¬ (HasKey r)) × (after.knows ≡ before.knows)
 HasAsked r NoSuchPid before after =
     HasKey r

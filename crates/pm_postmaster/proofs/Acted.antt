@@ -1,7 +1,7 @@
 -- The acts of the machine.
 use Rattle.std.{proofs.Common.{◌≡◌, ℕ, List, [], ◌∷◌, ◌++◌, refl, sym, ap, subst, ◌∙◌, length}, specs.Prelude.{Option, None, Some, IfSome, is_some}}
 use Rattle.pm_server.{specs.{pm_exit.declared.child.Kind.Kind, Acted.LogBehind, pm_supervisor_journal.{declared.{act.Act.Act, roll.Enrolled.Enrolled}, Standing.{Standing, act_for, done, entry_for, first_due}}, pm_outside.Visits.Visits, pm_state.declared.{action.Action.Action, event.PmEvent.PmEvent}}, proofs.ActedLaws.said_acted}
-use Rattle.pm_board.{specs.{declared.views.{RosterStep.RosterStep, RosterView.RosterView}, Children.CountsChildren}, proofs.BoardLaws.no_connection}
+use Rattle.pm_board.{specs.{pm_board_words.declared.views.{RosterStep.RosterStep, RosterView.RosterView}, Children.CountsChildren}, proofs.BoardLaws.no_connection}
 use Rattle.pm_server.specs.pm_supervisor_journal.declared.act.Act.TheVariants as act
 use Rattle.pm_board_acts.{specs.{Acts.{MayPerform, Performs, slot_of, steps_for}, Board.after_steps, Calls.slot_for, Chained.pids_accepted, Seating.{Move, Notes, journal_of}, Standing.view, pm_worker.declared.mail.MailTold.MailTold}, proofs.FoldingLaws.journal-more}
 use Rattle.pm_board_acts.specs.Standing as seating

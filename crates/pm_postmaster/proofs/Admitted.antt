@@ -1,6 +1,6 @@
 -- A connection is taken.
 use Rattle.std.{proofs.{Common.{◌≡◌, ℕ, ◌+◌, ◌<◌, List, [], ◌∷◌, ◌++◌, refl, sym, ap, subst, ◌∙◌, length}, lemmas.List.length_push}, specs.Prelude.{true, false, Option, None, Some, IfSome, is_some, option_map}}
-use Rattle.pm_board_acts.{specs.{pm_admit.declared.Cac.Cac, pm_board.{declared.views.{RosterView.RosterView, Sight.TheVariants.Unused}, Children.CountsChildren, Models.HasAssigned, Places.{is_connection, slot_at}}, pm_supervisor_journal.{declared.roll.Enrolled.Enrolled, Standing.{Standing, accepting, decision_on, made, next_pid}}, Board.{SeenAs, seat_at, seats_of}, Calls.accepts, Chained.pids_accepted, Seating.{Notes, journal_of}, Standing.view, pm_state.declared.event.PmEvent.PmEvent, pm_supervisor.Steps.kind_for}, proofs.FoldingLaws.journal-more}
+use Rattle.pm_board_acts.{specs.{pm_admit.declared.Cac.Cac, pm_board.{pm_board_words.declared.views.{RosterView.RosterView, Sight.TheVariants.Unused}, Children.CountsChildren, Models.HasAssigned, Places.{is_connection, slot_at}}, pm_supervisor_journal.{declared.roll.Enrolled.Enrolled, Standing.{Standing, accepting, decision_on, made, next_pid}}, Board.{SeenAs, seat_at, seats_of}, Calls.accepts, Chained.pids_accepted, Seating.{Notes, journal_of}, Standing.view, pm_state.declared.event.PmEvent.PmEvent, pm_supervisor.Steps.kind_for}, proofs.FoldingLaws.journal-more}
 use Rattle.pm_board_acts.specs.pm_admit.declared.Cac.TheVariants as decisions
 use Rattle.pm_board_acts.specs.pm_exit.declared.child.Kind.TheVariants as kinds
 use Rattle.pm_server_lines.{specs.Log.HasSaid, proofs.LogLaws.said_same}

@@ -1,6 +1,6 @@
 -- A server begins.
 use Rattle.std.{proofs.{Common.{◌≡◌, inl, ℕ, zero, suc, ◌+◌, ◌≤◌, List, [], ◌∷◌, refl, sym, ap, subst, ◌∙◌, length, arith, get_or, replicate}, lemmas.List.length-replicate}, specs.{Prelude.{true, false, Option, None, Some, IfSome, is_some}, List.{Contains, flat_map}}}
-use Rattle.pm_board_acts.specs.{pm_board.{declared.views.{SessionLimit.SessionLimit, PastChild.PastChild, RosterView.RosterView, Sight.TheVariants.Unused, SlotView.SlotView}, Children.{children_of, count_of}, Places.{is_connection, slot_at, slot_view}, Told.new_roster}, pm_supervisor_journal.{Standing.{Standing, nothing_done}, Stands.AtWork, Due.is_last_drawn}, Standing.{IsAt, IsUnbegun, view}, pm_state.declared.event.PmEvent.PmEvent}
+use Rattle.pm_board_acts.specs.{pm_board.{pm_board_words.declared.views.{SessionLimit.SessionLimit, PastChild.PastChild, RosterView.RosterView, Sight.TheVariants.Unused, SlotView.SlotView}, Children.{children_of, count_of}, Places.{is_connection, slot_at, slot_view}, Told.new_roster}, pm_supervisor_journal.{Standing.{Standing, nothing_done}, Stands.AtWork, Due.is_last_drawn}, Standing.{IsAt, IsUnbegun, view}, pm_state.declared.event.PmEvent.PmEvent}
 use Rattle.pm_serve_pool.specs.{Plan.sessions_of, pm_serve_crew.Redos.redo_told, pm_store_shared.{declared.views.Noted.Noted, Log.noted}}
 use Rattle.pm_server_lines.{specs.Log.HasSaid, proofs.LogLaws.said_first}
 use Rattle.pm_worker.specs.{pm_outside.Visits.{Visits, no_visits}, pm_query.declared.book.BookEntry.TheVariants.Opened, declared.mail.MailTold.MailTold}

@@ -1,6 +1,6 @@
 -- The calls of a desk, as a server makes them.
 use Rattle.std.{proofs.Common.{◌≡◌, ℕ, List, [], ◌∷◌, refl, ap, sym, subst, ◌∙◌, arith}, specs.Prelude.{true, false, Option, None, Some, IfSome, is_some, length, option_map}}
-use Rattle.pm_board_acts.specs.{pm_board.{declared.views.RosterView.RosterView, Places.slot_at}, Chained.AsksFor, Final.MayEndAnywhere, Seating.{Move, PidsEnd, PortEnds, Reads, Request}, Sitting.KeepsPast, pm_worker.declared.mail.MailTold.MailTold}
+use Rattle.pm_board_acts.specs.{pm_board.{pm_board_words.declared.views.RosterView.RosterView, Places.slot_at}, Chained.AsksFor, Final.MayEndAnywhere, Seating.{Move, PidsEnd, PortEnds, Reads, Request}, Sitting.KeepsPast, pm_worker.declared.mail.MailTold.MailTold}
 use Rattle.pm_server.specs.{pm_supervisor_journal.Laws.KeepsALegalJournal, pm_outside.{Visits.{Visits, after_accept}, declared.port.Accepted.TheVariants.End}, declared.end.ServerEnd.TheVariants.NoMemory, pm_supervisor.Children.one_if}
 use Rattle.pm_serve_requests.specs.Requests.{IsNumber}
 use Rattle.pm_postmaster.{specs.{Asking.GivesLine, Requests.{AsksSoFar, IsAsked, ended_in}, Links.HasLinks, Serving.{Keeps, Outset, Stops}, View.View}, proofs.{Asked.{OwesOn, asked_all, asked_but_end, asked_but_line, asks_on, ends_now, ends_still, none_read}, Going.{AsksOn, Leaves, LeavesAsking, LeavesOutside, LeavesStore, stopped_as}, Steps.{LinksStay, links_stay, still_on}}}

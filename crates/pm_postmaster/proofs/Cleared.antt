@@ -2,7 +2,7 @@
 use Rattle.std.{proofs.{Common.{◌≡◌, ℕ, ◌<◌, List, [], ◌++◌, refl, sym, ap, subst, ◌∙◌, length, get_or, append-nil, append_assoc, arith, nat_eq}, lemmas.List.length-map}, specs.Prelude.{Bool, Option, None, Some, IfSome, is_some, option_map}}
 use Rattle.atomic_table.specs.Seated.{TableId}
 use Rattle.pm_server.specs.{pm_facts.Bools.by_test, pm_exit.declared.child.{Kind.Kind, Status.Status}, pm_supervisor_journal.declared.roll.Enrolled.Enrolled, pm_outside.Visits.Visits}
-use Rattle.pm_board_acts.specs.{pm_board.{declared.views.{PastChild.PastChild, RosterView.RosterView, SlotView.SlotView, Sight.TheVariants.Unused}, Children.{CountsChildren, child_in_slot, children_of}, Places.{slot_at, slot_view}}, Board.{enrolled, seats_of}, Final.KeepsEnding, Sitting.{HasFoundNone, StillRuns}, pm_worker.declared.mail.MailTold.MailTold}
+use Rattle.pm_board_acts.specs.{pm_board.{pm_board_words.declared.views.{PastChild.PastChild, RosterView.RosterView, SlotView.SlotView, Sight.TheVariants.Unused}, Children.{CountsChildren, child_in_slot, children_of}, Places.{slot_at, slot_view}}, Board.{enrolled, seats_of}, Final.KeepsEnding, Sitting.{HasFoundNone, StillRuns}, pm_worker.declared.mail.MailTold.MailTold}
 use Rattle.pm_postmaster.{specs.{Clearing.{Clears, MayClear}, Links.HasLinks, Looking.opened, Requests.ended_in}, proofs.{Asked.ended_opened, Linking.links_same, Offers.{served_both, served_found, served_same}, Reaped.{Leaving, limit_back, limit_found, links_back, links_still, numbered_back, past_more, served_back, slots_found}}}
 
 -- slots that are the same

@@ -1,6 +1,6 @@
 -- After the closing of all workers no two children had one pid.
 use Rattle.std.{proofs.Common.{◌≡◌, ◌≢◌, ◌⊎◌, inl, inr, ℕ, ◌<◌, ◌≤◌, List, [], ◌∷◌, ◌++◌, refl, sym, ap, subst, ◌∙◌, arith}, specs.{Prelude.{Bool, true, false, map, nat_lt}, List.AllByRecursion}}
-use Rattle.pm_board_acts.specs.{pm_board.{declared.views.{PastChild.PastChild, RosterView.RosterView}, Places.slot_at}, pm_supervisor_chain.Chain.{AreDistinct, IsPidOf}, pm_supervisor_journal.Stands.highest_pid, pm_worker.declared.mail.MailTold.MailTold}
+use Rattle.pm_board_acts.specs.{pm_board.{pm_board_words.declared.views.{PastChild.PastChild, RosterView.RosterView}, Places.slot_at}, pm_supervisor_chain.Chain.{AreDistinct, IsPidOf}, pm_supervisor_journal.Stands.highest_pid, pm_worker.declared.mail.MailTold.MailTold}
 use Rattle.pm_serve_pool.specs.{Closing.{HasHadLast, closing_pid}, pm_serve_crew.Pids.{AreUsedOnce, pids_at}}
 
 -- no child had a pid above the highest that a supervisor draws

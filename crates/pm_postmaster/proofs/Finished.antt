@@ -5,7 +5,7 @@ use Rattle.pm_server.specs.pm_disk.declared.disk.Disk as Disk
 use Rattle.pm_server.specs.pm_outside.declared.chronicle.Chronicle as Chronicle
 use Rattle.pm_serve_pool.{specs.{Given.{IsGivenBack, IsOpenedAlone}, pm_serve_crew.{Left.{AreLeft, Manner}, Pids.AreUsedOnce}, Closing.HasHadLast, pm_store_shared.declared.views.Noted.Noted}, proofs.pm_serve_crew.PidsLaws.{drawn_by, used_once}}
 use Rattle.pm_server_lines.{specs.Log.{HasLogged, HasPrinted, LogView}, proofs.LogLaws.{logged_by, printed_more}}
-use Rattle.pm_board_acts.specs.{pm_board.{declared.views.{PastChild.PastChild, RosterView.RosterView, Sight.TheVariants.Unused, SlotView.SlotView}, Places.{slot_at, slot_view}}, Chained.{LinksCameBack, pids_accepted}, Final.{EndsWithNobody, IsEndingAt, NobodySits}, Seating.{Move, journal_of}, pm_worker.declared.mail.MailTold.MailTold}
+use Rattle.pm_board_acts.specs.{pm_board.{pm_board_words.declared.views.{PastChild.PastChild, RosterView.RosterView, Sight.TheVariants.Unused, SlotView.SlotView}, Places.{slot_at, slot_view}}, Chained.{LinksCameBack, pids_accepted}, Final.{EndsWithNobody, IsEndingAt, NobodySits}, Seating.{Move, journal_of}, pm_worker.declared.mail.MailTold.MailTold}
 use Rattle.pm_postmaster.{specs.{Links.{AreBackIn, AreServed, HasLinks, accepted_in}, Requests.IsAsked, Serving.{IsCausedBehind, last_pid_in, HasComeOut}, Served.IsEnded, declared.came.Came.Came}, proofs.{Closing.still_once, Home.{back_home, links_home}}}
 
 -- these entries were added to a new journal

@@ -1,7 +1,7 @@
 -- Each link came back once.
 use Rattle.std.{proofs.{Common.{◌≡◌, ◌≢◌, ◌⊎◌, inl, inr, ℕ, zero, suc, ◌+◌, ◌-◌, ◌<◌, ◌≤◌, List, [], ◌∷◌, ◌++◌, refl, sym, ap, subst, ◌∙◌, length, map, arith, get_or}, lemmas.{List.{length-map, Elements.{Contains-append_left, Contains-push, Contains-push_cases}}, Option.slice_get-get_or}}, specs.{Prelude.{Bool, true, false, ◌==◌, if◌then◌else◌, None, nat_lt}, List.{AllByRecursion, Contains}}}
 use Rattle.pm_server.specs.{pm_admit.declared.Cac.Cac, pm_facts.Bools.by_test, pm_outside.Visits.{Visit, Visits}, pm_query.declared.book.BookEntry.BookEntry, pm_state.{declared.event.PmEvent.PmEvent, Restarts.without_pid}}
-use Rattle.pm_board_acts.specs.{pm_board.{declared.views.{PastChild.PastChild, RosterView.RosterView, Sight.TheVariants.{Assigned, Unused}}, Places.slot_at}, pm_supervisor_chain.Chain.IsPidOf, Chained.{LinksCameBack, pids_accepted}, pm_worker.{declared.mail.MailTold.MailTold, Runs.{Does, IsRun, Run}}}
+use Rattle.pm_board_acts.specs.{pm_board.{pm_board_words.declared.views.{PastChild.PastChild, RosterView.RosterView, Sight.TheVariants.{Assigned, Unused}}, Places.slot_at}, pm_supervisor_chain.Chain.IsPidOf, Chained.{LinksCameBack, pids_accepted}, pm_worker.{declared.mail.MailTold.MailTold, Runs.{Does, IsRun, Run}}}
 use Rattle.pm_serve_pool.specs.{pm_serve_crew.Left.{AreLeft, Manner}, Closing.HasHadLast, pm_store_shared.declared.views.Noted.Noted}
 use Rattle.pm_board_acts.specs.pm_worker.declared.mail.MailTold.TheVariants as mail
 use Rattle.pm_postmaster.{specs.Links.{AcceptedConnection, AreBackIn, AreServed, BackIn, HasLinks, HasOffer, IsBackIn, IsOffered, Serves, accepted_in}, proofs.Offers.{as_many_accepted, got_some}}

@@ -1,7 +1,7 @@
 -- What the steps of a supervisor leave of the links that are out.
 use Rattle.std.{proofs.{Common.{◌≡◌, ◌⊎◌, inl, inr, ℕ, ◌+◌, ◌<◌, ◌≤◌, List, [], ◌∷◌, refl, sym, ap, subst, ◌∙◌, length, set, get_or, arith, nat_eq}, lemmas.List.{get_or-map, length-map, length_push, map-set, set-get_or, Elements.{Contains-append_left, Contains-push, Contains-push_cases}}}, specs.{Prelude.{Bool, false, Option, None}, List.Contains}}
 use Rattle.pm_server.specs.{pm_facts.Bools.by_test, pm_exit.declared.child.{Kind.Kind, Status.Status}, pm_outside.Visits.{Visit, Visits}}
-use Rattle.pm_board.{specs.{declared.views.{Offer.Offer, PastChild.PastChild, RosterNotes.RosterNotes, RosterStep.RosterStep, RosterView.RosterView, Sight.TheVariants.{Assigned, Unused}, SlotView.SlotView}, Children.{CountsChildren, child_in_slot, child_seen, children_of, count_of}, Models.{HasAssigned, SlotBecame}, Places.{is_connection, slot_at, slot_view}, Told.{after_step, past_child, released_slot, running_slot}, Words.bit}, proofs.BoardLaws.bit_small}
+use Rattle.pm_board.{specs.{pm_board_words.{declared.views.{Offer.Offer, PastChild.PastChild, RosterNotes.RosterNotes, RosterStep.RosterStep, RosterView.RosterView, Sight.TheVariants.{Assigned, Unused}, SlotView.SlotView}, Words.bit}, Children.{CountsChildren, child_in_slot, child_seen, children_of, count_of}, Models.{HasAssigned, SlotBecame}, Places.{is_connection, slot_at, slot_view}, Told.{after_step, past_child, released_slot, running_slot}}, proofs.BoardLaws.bit_small}
 use Rattle.pm_board_acts.specs.{Board.after_steps, pm_worker.{declared.mail.{LinkTold.LinkTold, MailTold.MailTold}, Mails.ComesBack}}
 use Rattle.pm_board_acts.specs.pm_worker.declared.mail.MailTold.TheVariants as mail
 use Rattle.pm_postmaster.specs.{Links.{BackIn, HasLinks, IsBackIn}, Looking.opened}

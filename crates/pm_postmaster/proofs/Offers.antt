@@ -1,7 +1,7 @@
 -- What the steps of a supervisor leave of who was offered a connection.
 use Rattle.std.{proofs.{Common.{◌≡◌, ◌⊎◌, inl, inr, ℕ, zero, suc, ◌+◌, ◌<◌, List, [], ◌∷◌, ◌++◌, refl, sym, ap, subst, ◌∙◌, length, get_or, arith, nat_eq, append-nil}, lemmas.{List.{nil_from_length, Concat.flat_map-append, Elements.{Contains-append_left, Contains-push}}, Option.same_Some}}, specs.{Prelude.{Bool, Some, slice_get}, List.Contains}}
 use Rattle.pm_server.specs.{pm_facts.Bools.by_test, pm_admit.declared.Cac.Cac, pm_exit.declared.child.{Kind.Kind, Status.Status}, pm_state.declared.event.PmEvent.PmEvent}
-use Rattle.pm_board_acts.specs.{pm_board.{declared.views.{Offer.Offer, PastChild.PastChild, RosterNotes.RosterNotes, RosterView.RosterView, Sight.TheVariants.{Assigned, Unused}, SlotView.SlotView}, Models.{HasAssigned, SlotBecame}, Places.{slot_at, slot_view}, Told.{assigned_slot, past_child, released_slot, running_slot}}, Chained.pids_accepted, Sitting.HasFoundNone, pm_worker.declared.mail.MailTold.MailTold}
+use Rattle.pm_board_acts.specs.{pm_board.{pm_board_words.declared.views.{Offer.Offer, PastChild.PastChild, RosterNotes.RosterNotes, RosterView.RosterView, Sight.TheVariants.{Assigned, Unused}, SlotView.SlotView}, Models.{HasAssigned, SlotBecame}, Places.{slot_at, slot_view}, Told.{assigned_slot, past_child, released_slot, running_slot}}, Chained.pids_accepted, Sitting.HasFoundNone, pm_worker.declared.mail.MailTold.MailTold}
 use Rattle.pm_server.specs.pm_state.declared.event.PmEvent.TheVariants as entry
 use Rattle.pm_postmaster.specs.Links.{AcceptedConnection, AreAnswered, AreServed, HasOffer, IsOffered, KeepsServed, Serves, accepted_in, connection_of}
 

@@ -1,7 +1,7 @@
 -- What an act comes to.
 use Rattle.std.{proofs.Common.{◌≡◌, ◌≢◌, ℕ, ◌+◌, List, [], ◌∷◌, ◌++◌, refl, sym, ap, subst, ◌∙◌, map, arith, append-nil}, specs.Prelude.{Bool, true, false, if◌then◌else◌, Option, None, Some, Result, Ok, Err, is_some}}
 use Rattle.pm_server.specs.{pm_exit.declared.child.{Kind.Kind, Status.{Status, TheVariants.{Code, Signal}}}, Acted.LogBehind, pm_server_lines.Log.LogView, pm_state.{Starts.has_end, Journal.{all_replayed, replay_begun}, Laws.RestartsSafely, Restarts.AreAsSet, declared.{action.Action.Action, event.PmEvent.PmEvent}}, declared.end.{ServerEnd.{ServerEnd, TheVariants.{Abnormal, NoMemory}}, StartWhy.TheVariants.{Redo, Killed}, Why.TheVariants.StartupFailed}, pm_query.declared.store.StoreNo.StoreNo, pm_segment.Renewal.renewal, pm_supervisor.{declared.{Ending.Ending, Limits.Limits}, Children.{is_checkpointer, is_startup_child}}}
-use Rattle.pm_board_acts.{specs.{pm_board.{declared.views.{PastChild.PastChild, RosterView.RosterView}, Children.CountsChildren, Places.slot_at, Gate.gate_of}, Acts.{MayPerform, IsDone as IsDoneAtBoard, Performs as PerformsAtBoard, MayDo}, Board.{seats_of, ended_of}, Calls.{slot_for, DoesNext, StandsStill}, Final.MayEndAnywhere, Seating.{Move, Notes, ended_at, journal_of}, Sitting.KeepsPast, Standing.view, pm_worker.declared.mail.MailTold.MailTold}, proofs.FoldingLaws.journal-more}
+use Rattle.pm_board_acts.{specs.{pm_board.{pm_board_words.declared.views.{PastChild.PastChild, RosterView.RosterView}, Children.CountsChildren, Places.slot_at, Gate.gate_of}, Acts.{MayPerform, IsDone as IsDoneAtBoard, Performs as PerformsAtBoard, MayDo}, Board.{seats_of, ended_of}, Calls.{slot_for, DoesNext, StandsStill}, Final.MayEndAnywhere, Seating.{Move, Notes, ended_at, journal_of}, Sitting.KeepsPast, Standing.view, pm_worker.declared.mail.MailTold.MailTold}, proofs.FoldingLaws.journal-more}
 use Rattle.pm_supervisor_journal.{proofs.{EndsLaws.{last_set, spent_next}, NextsLaws.{first_is, next_given, next_spent, ended_kept, generation_kept}}, specs.{declared.act.{Act.Act, GenerationsSpent.GenerationsSpent}, Laws.KeepsALegalJournal, Standing.{Standing, act_for, done, entry_for, first_due, next_of}, Stands.any_moment}}
 use Rattle.pm_board_acts.specs.Standing as seating
 use Rattle.pm_server.specs.declared.end.Why.TheVariants as whys

@@ -1,7 +1,7 @@
 -- What a server leaves that has ended.
 use Rattle.std.{proofs.Common.{◌≡◌, ℕ, ◌<◌, ◌≤◌, List, ◌++◌, sym, ap, subst, ◌∙◌, length, append_assoc}, specs.Prelude.{Bool, Option, IfSome, is_some}}
 use Rattle.atomic_table.specs.Seated.{TableId}
-use Rattle.pm_board_acts.specs.{pm_board.{declared.views.{PastChild.PastChild, RosterView.RosterView}, Places.slot_at}, Chained.LinksCameBack, Final.{EndsWithNobody, IsEndingAt, NobodySits}, Seating.journal_of, Standing.IsBoardOf, pm_worker.declared.mail.MailTold.MailTold}
+use Rattle.pm_board_acts.specs.{pm_board.{pm_board_words.declared.views.{PastChild.PastChild, RosterView.RosterView}, Places.slot_at}, Chained.LinksCameBack, Final.{EndsWithNobody, IsEndingAt, NobodySits}, Seating.journal_of, Standing.IsBoardOf, pm_worker.declared.mail.MailTold.MailTold}
 use Rattle.pm_serve_pool.specs.{pm_serve_crew.{Left.{AreLeft, Manner}, Pids.AreUsedOnce, Redos.RedosAreThose}, Closing.{HasHadLast, KeepsBoard, MayClose}, pm_store_shared.declared.views.Noted.Noted}
 use Rattle.pm_server.specs.{pm_supervisor_journal.Stands.highest_pid, pm_outside.Visits.Visits, pm_query.declared.book.BookEntry.BookEntry, declared.end.ServerEnd.ServerEnd}
 use Rattle.pm_postmaster.{specs.{Clearing.{Clears, MayClear}, Links.{AreAnswered, AreBackIn, AreServed, accepted_in}, Requests.{IsAsked, ended_in}, Serving.{HasStopped, IsCausedBehind, Outset, last_pid_in}, View.View}, proofs.{Finished.{asked_behind, back_if, caused_more, home_if, none_behind, once_after, past_after}, Offers.answered_by, Redoing.redos_behind}}

@@ -2,8 +2,8 @@
 use Rattle.std.{proofs.Common.{◌≡◌, inl, inr, ℕ, ◌<◌, List, [], ◌∷◌, ◌++◌, refl, sym, ap, subst, ◌∙◌, length, arith, append-nil, nat_eq}, specs.Prelude.{Bool, true, false, if◌then◌else◌, Option, None, Some, IfSome, is_some, option_map, unwrap_or}}
 use Rattle.pm_server.specs.{pm_facts.Bools.by_test, pm_exit.declared.child.{Kind.Kind, Status.Status}, pm_supervisor_journal.{declared.{exit.ChildExit.ChildExit, roll.Enrolled.Enrolled}, Laws.KeepsALegalJournal, Standing.{Standing, all_noted, called, ends_redo, exit_call, exit_entry, exiting, later, made}, Stands.AtWork}, pm_outside.Visits.Visits, declared.end.ServerEnd.TheVariants.NoMemory, pm_state.{declared.event.PmEvent.PmEvent, Journal.lines_of}, pm_supervisor.Children.{is_checkpointer, is_startup_child}}
 use Rattle.pm_server.specs.pm_exit.declared.child.Kind.TheVariants as kinds
-use Rattle.pm_board_acts.specs.pm_board.declared.views.Letter as Letter
-use Rattle.pm_board_acts.{specs.{pm_board.{declared.{views.{Offer.Offer, RosterNotes.RosterNotes, RosterView.RosterView, PastChild.PastChild, Sight.TheVariants.{Assigned, Unused}, SlotView.SlotView}, roster.Released.Released}, Children.CountsChildren, Models.SlotBecame, Places.slot_at, Told.{past_child, released_slot}}, pm_supervisor_chain.Chain.{lost_from, resets_of, lost_since}, Board.{SeenAs, seat_at, seats_of}, Calls.{IsCutOff, exit_of, exits, kept_by}, Mails.kept_told, Chained.pids_accepted, Final.MayEndAnywhere, Seating.{Move, journal_of}, Sitting.{HasFoundNone, HasReaped}, Standing.view, pm_worker.{declared.mail.MailTold.MailTold, Mails.ComesBack}}, proofs.FoldingLaws.{journal-notes, none_more}}
+use Rattle.pm_board_acts.specs.pm_board.pm_board_words.declared.views.Letter as Letter
+use Rattle.pm_board_acts.{specs.{pm_board.{pm_board_words.declared.views.{Offer.Offer, RosterNotes.RosterNotes, RosterView.RosterView, PastChild.PastChild, Sight.TheVariants.{Assigned, Unused}, SlotView.SlotView}, declared.roster.Released.Released, Children.CountsChildren, Models.SlotBecame, Places.slot_at, Told.{past_child, released_slot}}, pm_supervisor_chain.Chain.{lost_from, resets_of, lost_since}, Board.{SeenAs, seat_at, seats_of}, Calls.{IsCutOff, exit_of, exits, kept_by}, Mails.kept_told, Chained.pids_accepted, Final.MayEndAnywhere, Seating.{Move, journal_of}, Sitting.{HasFoundNone, HasReaped}, Standing.view, pm_worker.{declared.mail.MailTold.MailTold, Mails.ComesBack}}, proofs.FoldingLaws.{journal-notes, none_more}}
 use Rattle.pm_server_lines.{specs.Log.HasSaid, proofs.LogLaws.said_same}
 use Rattle.pm_serve_pool.specs.{pm_serve_crew.Renewals.RenewsAsTold, pm_store_shared.declared.views.Noted.Noted}
 use Rattle.pm_board_acts.specs.Standing as seating

@@ -1,7 +1,7 @@
 -- The ends of redo that the supervisor tells of, beside what its startup children kept.
 use Rattle.std.{proofs.{Common.{◌≡◌, ◌≢◌, ℕ, List, [], ◌∷◌, ◌++◌, refl, sym, ap, ◌∙◌, arith, append-nil, append_assoc}, lemmas.Grind.flat_map-append}, specs.{List.flat_map, Prelude.{Bool, true, false, ◌==◌, ◌&&◌, if◌then◌else◌, map, Option, None, Some, unwrap_or}}}
 use Rattle.pm_server.specs.{pm_facts.Bools.{by_test, cond-same}, pm_exit.{declared.child.{Kind.Kind, Status.Status}, Ends.is_exit_0}, pm_supervisor_journal.{declared.exit.ChildExit.ChildExit, Standing.{Standing, ends_redo, entry_for, exit_entry, later}}, pm_state.declared.action.Action.Action, pm_supervisor.Children.is_startup_child}
-use Rattle.pm_board_acts.specs.{pm_board.{declared.views.{Offer.Offer, PastChild.PastChild, RosterNotes.RosterNotes, RosterView.RosterView, SlotView.SlotView}, Models.SlotBecame, Told.{past_child, released_slot}, Places.slot_at}, pm_supervisor_chain.Chain.InGeneration, Board.ended_of, Mails.kept_told, Calls.{exits, kept_by, notes_in, slot_for}, Seating.{Move, Notes, ended_at}, Sitting.KeepsPast, pm_worker.declared.mail.MailTold.MailTold}
+use Rattle.pm_board_acts.specs.{pm_board.{pm_board_words.declared.views.{Offer.Offer, PastChild.PastChild, RosterNotes.RosterNotes, RosterView.RosterView, SlotView.SlotView}, Models.SlotBecame, Told.{past_child, released_slot}, Places.slot_at}, pm_supervisor_chain.Chain.InGeneration, Board.ended_of, Mails.kept_told, Calls.{exits, kept_by, notes_in, slot_for}, Seating.{Move, Notes, ended_at}, Sitting.KeepsPast, pm_worker.declared.mail.MailTold.MailTold}
 use Rattle.pm_serve_pool.specs.pm_serve_crew.Redos.{RedosAreThose, redo_ends_at, redo_ends_by, redo_told, told_if}
 use Rattle.pm_server.specs.pm_state.declared.action.Action.TheVariants as action
 use Rattle.pm_server.specs.pm_state.declared.event.PmEvent.TheVariants as entry

@@ -1,6 +1,6 @@
 -- The calls of a turn that tell of no child.
 use Rattle.std.{proofs.Common.{◌≡◌, ℕ, List, [], ◌∷◌, ◌++◌, refl, sym, ap, subst, ◌∙◌, length, append-nil}, specs.Prelude.{Bool, true, false, if◌then◌else◌, Option, None, Some, IfSome, is_some}}
-use Rattle.pm_board_acts.{specs.{pm_board.declared.views.RosterView.RosterView, pm_modes.declared.Mode.Mode, Board.seats_of, Chained.pids_accepted, Seating.{Kill, Move, Reads, Request, Seating, asked_by, entries_by, is_seated, journal_of, seating_of}, Standing.view, pm_state.{declared.event.PmEvent.PmEvent, Journal.lines_of}}, proofs.FoldingLaws.{journal-more, none_more}}
+use Rattle.pm_board_acts.{specs.{pm_board.pm_board_words.declared.views.RosterView.RosterView, pm_modes.declared.Mode.Mode, Board.seats_of, Chained.pids_accepted, Seating.{Kill, Move, Reads, Request, Seating, asked_by, entries_by, is_seated, journal_of, seating_of}, Standing.view, pm_state.{declared.event.PmEvent.PmEvent, Journal.lines_of}}, proofs.FoldingLaws.{journal-more, none_more}}
 use Rattle.pm_supervisor_journal.{proofs.NextsLaws.same_work, specs.{declared.roll.Enrolled.Enrolled, Moments.AreGiven, Standing.{Making, Standing, asking, made, ticking, turning}, Stands.AtWork}}
 use Rattle.pm_server_lines.{specs.Log.HasSaid, proofs.LogLaws.said_same}
 use Rattle.pm_worker.specs.{pm_outside.Visits.Visits, declared.mail.MailTold.MailTold}

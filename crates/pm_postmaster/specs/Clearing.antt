@@ -1,7 +1,7 @@
 -- What the clearing of a board keeps.
 use Rattle.std.specs.Prelude.{◌≡◌, ℕ, List, ◌++◌, Option, IfSome, is_some, length}
 use Rattle.atomic_table.specs.Seated.{TableId}
-use Rattle.pm_worker.specs.{pm_board.{declared.views.{PastChild.PastChild, RosterView.RosterView}, Places.slot_at}, pm_outside.Visits.Visits, declared.mail.MailTold.MailTold}
+use Rattle.pm_worker.specs.{pm_board.{pm_board_words.declared.views.{PastChild.PastChild, RosterView.RosterView}, Places.slot_at}, pm_outside.Visits.Visits, declared.mail.MailTold.MailTold}
 use Rattle.pm_board_acts.specs.{Final.{IsEndingAt, KeepsEnding}, Seating.Move}
 use Rattle.pm_postmaster.specs.{Links.{HasLinks, KeepsServed}, Requests.ended_in}
 

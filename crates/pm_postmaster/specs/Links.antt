@@ -1,6 +1,6 @@
 -- The links that a port gave, and the children that have them.
 use Rattle.std.specs.{Prelude.{◌≡◌, ◌⊎◌, ℕ, ◌+◌, ◌≤◌, Bool, true, List, [], ◌∷◌, length, Some, slice_get}, List.{Contains, flat_map}}
-use Rattle.pm_worker.specs.{pm_board.{declared.views.{Offer.Offer, PastChild.PastChild, RosterView.RosterView, Sight.TheVariants.Assigned, SlotView.SlotView}, Children.{children_of, count_of}, Places.{is_connection, slot_at}}, pm_outside.Visits.{Visit, Visits}, declared.mail.MailTold.MailTold, Mails.traffic_in}
+use Rattle.pm_worker.specs.{pm_board.{pm_board_words.declared.views.{Offer.Offer, PastChild.PastChild, RosterView.RosterView, Sight.TheVariants.Assigned, SlotView.SlotView}, Children.{children_of, count_of}, Places.{is_connection, slot_at}}, pm_outside.Visits.{Visit, Visits}, declared.mail.MailTold.MailTold, Mails.traffic_in}
 use Rattle.pm_server.specs.{pm_admit.declared.Cac.Cac, pm_state.declared.event.PmEvent.PmEvent}
 use Rattle.pm_server.specs.pm_state.declared.event.PmEvent.TheVariants as entry
 use Rattle.pm_worker.specs.declared.mail.MailTold.TheVariants as mail

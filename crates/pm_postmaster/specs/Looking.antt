@@ -1,6 +1,6 @@
 -- What is taken in of a child that was released.
 use Rattle.std.specs.Prelude.{◌≡◌, ℕ, ◌<◌, Bool, if◌then◌else◌, List, [], ◌∷◌, ◌++◌, Option, None, Some, IfSome, option_map, length}
-use Rattle.pm_board.specs.{pm_exit.declared.child.{Kind.Kind, Status.Status}, declared.views.PastChild.PastChild, pm_supervisor.Children.{is_checkpointer, is_startup_child}}
+use Rattle.pm_board.specs.{pm_exit.declared.child.{Kind.Kind, Status.Status}, pm_board_words.declared.views.PastChild.PastChild, pm_supervisor.Children.{is_checkpointer, is_startup_child}}
 use Rattle.pm_worker.specs.{pm_outside.Visits.{Visits, after_done}, pm_query.declared.store.StoreNo.StoreNo, declared.mail.MailTold.MailTold, Mails.traffic_in}
 use Rattle.pm_worker.specs.declared.mail.MailTold.TheVariants as mail
 use Rattle.pm_postmaster.specs.{declared.came.{Came.Came, LastCame.LastCame}, View.View}

@@ -1,6 +1,6 @@
 -- What a run of a server of many connections leaves.
 use Rattle.std.specs.Prelude.{◌≡◌, ◌⊎◌, ◌+◌, ◌*◌, ℕ, List, [], ◌∷◌, ◌++◌, Option, None, Some, IfSome, is_some, ◌≢◌}
-use Rattle.pm_board_acts.specs.{pm_board.declared.views.RosterView.RosterView, Chained.LinksCameBack, Seating.{Move, journal_of}, Standing.IsBoardOf, pm_worker.declared.mail.MailTold.MailTold, pm_supervisor_chain.Chain.{opened_of, resets_of}}
+use Rattle.pm_board_acts.specs.{pm_board.pm_board_words.declared.views.RosterView.RosterView, Chained.LinksCameBack, Seating.{Move, journal_of}, Standing.IsBoardOf, pm_worker.declared.mail.MailTold.MailTold, pm_supervisor_chain.Chain.{opened_of, resets_of}}
 use Rattle.pm_serve_pool.specs.{pm_serve_crew.{Left.{AreLeft, Manner}, Pids.AreUsedOnce, Redos.RedosAreThose, Renewals.RenewsAsTold}, declared.pool.NoPool.NoPool, Plan.sessions_of}
 use Rattle.pm_server.specs.{pm_disk.Cause.Rose, pm_server_lines.Log.{HasLogged, LogView, Says, log_of}, pm_record.OnDisk.GoesOn, pm_query.declared.book.BookEntry.{BookEntry, TheVariants.Opened}, declared.{conf.Conf.Conf, end.ServerEnd.{ServerEnd, TheVariants.{NoThread, NoMemory}}}, Ends.end_line, Journal.IsJournal, pm_supervisor.declared.Limits.Limits}
 use Rattle.pm_serve_pool.specs.declared.pool.NoPool.TheVariants as pools

@@ -1,7 +1,7 @@
 -- What holds of a server at every moment.
 use Rattle.std.specs.{Prelude.{◌≡◌, ◌≢◌, ◌⊎◌, ℕ, ◌≤◌, Bool, List, [], ◌∷◌, ◌++◌, Option, Some, IfSome, Result, Ok, Err, length, map, is_some}, List.flat_map}
 use Rattle.atomic_table.specs.Seated.{TableId}
-use Rattle.pm_board_acts.specs.{pm_board.{declared.views.{RosterView.RosterView, PastChild.PastChild}, Places.slot_at}, pm_supervisor_chain.Chain.{gone_from, lost_from, opened_of, resets_of, lost_since, gone_since}, Chained.pids_accepted, Final.IsEndingAt, Board.ended_of, Seating.{Move, ended_at, journal_of}, Standing.{IsAt, view}, pm_worker.declared.mail.MailTold.MailTold}
+use Rattle.pm_board_acts.specs.{pm_board.{pm_board_words.declared.views.{RosterView.RosterView, PastChild.PastChild}, Places.slot_at}, pm_supervisor_chain.Chain.{gone_from, lost_from, opened_of, resets_of, lost_since, gone_since}, Chained.pids_accepted, Final.IsEndingAt, Board.ended_of, Seating.{Move, ended_at, journal_of}, Standing.{IsAt, view}, pm_worker.declared.mail.MailTold.MailTold}
 use Rattle.pm_serve_pool.specs.{Plan.sessions_of, pm_serve_crew.{Redos.{redo_ends_at, redo_told, RedosAreThose}, Renewals.{EachBeginsSo, RenewsAsTold, WereInside}}, pm_store_shared.{Log.entries_of, Told.SharedModel, declared.views.Noted.Noted}}
 use Rattle.pm_server.specs.{pm_supervisor_journal.{Moments.AreGiven, Standing.Standing, Stands.{any_moment, highest_pid}}, pm_server_lines.Log.{HasSaid, LogView}, declared.end.{ServerEnd.{ServerEnd, TheVariants.{Abnormal, NoMemory, NoThread}}, StartWhy.StartWhy, Why.TheVariants.{AfterCrash, StartupFailed}}, pm_exit.declared.child.{Kind.Kind, Status.TheVariants.Signal}, pm_state.{declared.{action.Action.Action, event.PmEvent.PmEvent}, Journal.{IsLegal, all_replayed, replay_begun}}, Ends.IsEndBy, pm_supervisor.{declared.Limits.Limits, Children.{is_checkpointer, is_startup_child}}, pm_query.declared.store.StoreNo.TheVariants.{Redo as RedoNo, NoMemory as MemoryNo}, pm_record.declared.fault.RedoFault.TheVariants.{NoMemory as ShortOfMemory}}
 use Rattle.pm_server.specs.declared.end.StartWhy.TheVariants as why

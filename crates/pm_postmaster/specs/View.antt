@@ -1,7 +1,7 @@
 -- A server at one moment.
 use Rattle.std.specs.Prelude.{ℕ, Bool, List, Option}
 use Rattle.atomic_table.specs.Seated.{TableId}
-use Rattle.pm_worker.specs.{pm_board.declared.views.RosterView.RosterView, pm_outside.Visits.Visits, declared.mail.MailTold.MailTold}
+use Rattle.pm_worker.specs.{pm_board.pm_board_words.declared.views.RosterView.RosterView, pm_outside.Visits.Visits, declared.mail.MailTold.MailTold}
 use Rattle.pm_supervisor_journal.specs.{Stands.AtWork, Supervision.at_work}
 use Rattle.pm_server_lines.specs.Log.{LogView, view_of as log_view_of}
 use Rattle.pm_store_shared.specs.Told.{SharedModel}

@@ -1,6 +1,6 @@
 -- Journal and book of a server of many connections are chained.
 use Rattle.std.{proofs.{Common.{◌≡◌, ◌⊎◌, inl, inr, ℕ, ◌<◌, ◌≤◌, Bool, true, false, List, [], ◌∷◌, ◌++◌, refl, sym, ap, subst, ◌∙◌, arith, nat_lt}, lemmas.{Grind.flat_map-append, List.get_or_past}}, specs.{Prelude.{map, ◌==◌}, List.{AllByRecursion, flat_map}}}
-use Rattle.pm_serve_crew.{specs.{pm_facts.Lists.{each_both, each_first, each_second}, pm_board.{declared.views.{PastChild.PastChild, RosterView.RosterView, Sight.TheVariants.Unused, SlotView.SlotView}, Places.{slot_at, slot_view}}, pm_supervisor_chain.Chain.{AgreeOnGenerations, AreDistinct, InGeneration, IsAmong, IsPidOf, exits_of, gone_from, attached_of, kept_of, lost_from, redo_ends_of, redos_of, resets_of, users_from}, Left.{AreLeft, IsWorked, Manner}, Pids.{AreUsedOnce, pids_at}, Redos.{AreRedosOf, RedosAreThose, redo_told}, Uses.UsesStore, Renewals.{EachBeginsSo, RenewsAsTold}, pm_query.declared.book.BookEntry.{BookEntry, TheVariants.{Attached, Redone}}, pm_board_acts.{Board.{begun_of, ended_of}, Chained.IsChainedLoosely, Seating.{Begun, Ended, Move, begun_at, empty, ended_at, journal_of}, Standing.{AreClosing, IsBoardOf}}, pm_store_shared.{declared.views.Noted.Noted, Log.{entries_of, is_own}}, pm_state.declared.event.PmEvent.PmEvent, pm_supervisor.Children.is_dead_end, pm_worker.{declared.mail.MailTold.MailTold}}, proofs.{pm_supervisor_chain.FoldsLaws.{pid_left, pid_right}, BookLaws.in_book, EntriesLaws.{entries_of_runs, its_list, runs_use, worked}}}
+use Rattle.pm_serve_crew.{specs.{pm_facts.Lists.{each_both, each_first, each_second}, pm_board.{pm_board_words.declared.views.{PastChild.PastChild, RosterView.RosterView, Sight.TheVariants.Unused, SlotView.SlotView}, Places.{slot_at, slot_view}}, pm_supervisor_chain.Chain.{AgreeOnGenerations, AreDistinct, InGeneration, IsAmong, IsPidOf, exits_of, gone_from, attached_of, kept_of, lost_from, redo_ends_of, redos_of, resets_of, users_from}, Left.{AreLeft, IsWorked, Manner}, Pids.{AreUsedOnce, pids_at}, Redos.{AreRedosOf, RedosAreThose, redo_told}, Uses.UsesStore, Renewals.{EachBeginsSo, RenewsAsTold}, pm_query.declared.book.BookEntry.{BookEntry, TheVariants.{Attached, Redone}}, pm_board_acts.{Board.{begun_of, ended_of}, Chained.IsChainedLoosely, Seating.{Begun, Ended, Move, begun_at, empty, ended_at, journal_of}, Standing.{AreClosing, IsBoardOf}}, pm_store_shared.{declared.views.Noted.Noted, Log.{entries_of, is_own}}, pm_state.declared.event.PmEvent.PmEvent, pm_supervisor.Children.is_dead_end, pm_worker.declared.mail.MailTold.MailTold}, proofs.{pm_supervisor_chain.FoldsLaws.{pid_left, pid_right}, BookLaws.in_book, EntriesLaws.{entries_of_runs, its_list, runs_use, worked}}}
 use Rattle.pm_serve_chain.{specs.Renewed.{AgreeOnRenewals, LostAreGone}, proofs.{BookLaws.{AttachedOnce, OfRedo, OfUser, all_redos, all_users, attach_once, gone_own, opened_own}, JournalLaws.{ExitOnce, MayUse, all_ends, each_so, ends_among, exit_in, exits_once, lost_once, may_use, pids_of}, RunsLaws.{HasEnd, IsIn, IsToldIn, IsUser, all_in, all_run_ends, all_run_redos, all_run_users}, OnceLaws.{apart_joined, split}}}
 
 -- ---- whom the supervisor gave up

@@ -1,6 +1,6 @@
 -- What the runs of one slot are to the chain: whom they let into the store, and which redos they noted.
 use Rattle.std.{proofs.Common.{◌≡◌, ◌⊎◌, inl, inr, ℕ, List, [], ◌∷◌, length, refl, sym, ap, subst, ◌∙◌, arith}, specs.{Prelude.map, List.{AllByRecursion, flat_map}}}
-use Rattle.pm_serve_crew.specs.{pm_facts.Lists.each_both, pm_session_answers.Own.entries_by, pm_board.declared.views.PastChild.PastChild, pm_supervisor_chain.Chain.{InGeneration, IsAmong, IsPidOf, attached_of, kept_of, redos_of}, Pids.AreEntriesOf, Redos.redo_told, Uses.{HasUsed, IsWorkOf, UsesStore}, pm_query.declared.book.BookEntry.{BookEntry, TheVariants.{Attached, Redone}}, pm_board_acts.Board.begun_of, pm_worker.{declared.mail.MailTold.MailTold, Runs.{Run, noted_by}}}
+use Rattle.pm_serve_crew.specs.{pm_facts.Lists.each_both, pm_session_answers.Own.entries_by, pm_board.pm_board_words.declared.views.PastChild.PastChild, pm_supervisor_chain.Chain.{InGeneration, IsAmong, IsPidOf, attached_of, kept_of, redos_of}, Pids.AreEntriesOf, Redos.redo_told, Uses.{HasUsed, IsWorkOf, UsesStore}, pm_query.declared.book.BookEntry.{BookEntry, TheVariants.{Attached, Redone}}, pm_board_acts.Board.begun_of, pm_worker.{declared.mail.MailTold.MailTold, Runs.{Run, noted_by}}}
 use Rattle.pm_serve_chain.proofs.{BookLaws.{AttachedOnce, OfRedo, OfUser, redos_by}, JournalLaws.{MayUse, each_so}}
 
 -- the facts of a run beside the chain: it may use the store, and its entries in the book are those that it noted

@@ -1,7 +1,7 @@
 -- A server of many connections that ended clean leaves its files clean.
 use Rattle.std.{proofs.{Common.{◌≡◌, ◌≢◌, ◌⊎◌, inl, inr, ℕ, ◌+◌, ◌<◌, ◌≤◌, Bool, true, false, not, ◌&&◌, cond, get_or, length, Option, None, Some, List, [], ◌∷◌, ◌++◌, refl, sym, ap, subst, ◌∙◌, arith, length-append}, lemmas.{Bool.{or_cases, both_ways, eq-eqb}, Option.slice_get-get_or, List.Elements.{All-head, All-tail}}}, specs.{Prelude.{◌==◌, All, IfSome, nat_eq, slice_get}, List.{AllByRecursion, list_any}}}
 use Rattle.pm_store_remains.{specs.{pm_disk.Files.Files, pm_server.{Journal.asked_in, Story.AreLeftClean, Views.DiskView}}, proofs.pm_query.HistoryLaws.going-append}
-use Rattle.pm_serve_crew.{specs.{pm_exit.{declared.child.{Kind.Kind, Status.Status}, Ends.is_exit_0}, pm_modes.declared.Mode.{Mode, TheVariants.Immediate}, pm_supervisor.{Children.{is_checkpointer, is_startup_child}, declared.Limits.Limits}, pm_board.declared.views.RosterView.RosterView, pm_supervisor_journal.Stands.any_moment, pm_query.{declared.book.BookEntry.{BookEntry, TheVariants.{Attached, Redone, CheckpointEnded, Broke}}, Book.{IsLegal, MayGoOn, generation_of, history_of, present, times_attached}}, pm_session_answers.Own.{entries_by, is_by}, pm_supervisor_chain.Chain.{opened_of, resets_of}, pm_board_acts.{Board.{begun_of, ended_of}, Seating.{Begun, Ended, Move, journal_of}}, pm_segment.Unread.is_break, pm_store_shared.{declared.views.Noted.Noted, Log.{AllBelow, Line, entries_of, is_own, placed, noted as noted_at}}, pm_state.{declared.event.PmEvent.PmEvent, Journal.replay_begun, Laws.RestartsSafely}, pm_worker.{declared.mail.MailTold.MailTold, Runs.{IsRun, Run, noted_by}}, Left.Manner}, proofs.{EntriesLaws.entries_of_runs, OpenedLaws.opened_rest, UsesLaws.{own_entries, uses}}}
+use Rattle.pm_serve_crew.{specs.{pm_exit.{declared.child.{Kind.Kind, Status.Status}, Ends.is_exit_0}, pm_modes.declared.Mode.{Mode, TheVariants.Immediate}, pm_supervisor.{Children.{is_checkpointer, is_startup_child}, declared.Limits.Limits}, pm_board.pm_board_words.declared.views.RosterView.RosterView, pm_supervisor_journal.Stands.any_moment, pm_query.{declared.book.BookEntry.{BookEntry, TheVariants.{Attached, Redone, CheckpointEnded, Broke}}, Book.{IsLegal, MayGoOn, generation_of, history_of, present, times_attached}}, pm_session_answers.Own.{entries_by, is_by}, pm_supervisor_chain.Chain.{opened_of, resets_of}, pm_board_acts.{Board.{begun_of, ended_of}, Seating.{Begun, Ended, Move, journal_of}}, pm_segment.Unread.is_break, pm_store_shared.{declared.views.Noted.Noted, Log.{AllBelow, Line, entries_of, is_own, placed, noted as noted_at}}, pm_state.{declared.event.PmEvent.PmEvent, Journal.replay_begun, Laws.RestartsSafely}, pm_worker.{declared.mail.MailTold.MailTold, Runs.{IsRun, Run, noted_by}}, Left.Manner}, proofs.{EntriesLaws.entries_of_runs, OpenedLaws.opened_rest, UsesLaws.{own_entries, uses}}}
 use Rattle.pm_serve_crew.specs.pm_exit.declared.child.Kind.TheVariants as kinds
 use Rattle.pm_serve_crew.specs.pm_state.declared.event.PmEvent.TheVariants as entry
 use Rattle.pm_serve_clean_end.{specs.{Among.{IsAt, IsGiven, IsImage, IsIn, Passes, at_place, from_any, from_filter, from_flat_map, from_map, in_back, in_filter, in_front, of_all, to_any}, CleanEnd.{EndsClean, HasEndedClean, IsLeftBy}, Latest.{ends_redo, latest}, Seen.{checks, harms, is_harm, redoes, undoes}}, proofs.{BooksLaws.{IsPresent, IsWhole, generation_counted, generation_up, has_attached, in_present, present_last, present_place, whole}, EndsLaws.{HasEnded, began_in_last, ended_in_last, generation_behind, generations_counted, in_journal, redo_in_last}, JournalLaws.{EndsWell, IsMild, ends_well}, MovesLaws.{RedoRun, RunFor, began_told, end_of, is_run, redo_run, run_for}, RunsLaws.{May, NotesLast, NotesRedo, is_bad, last_noted, may_run, redo_noted}}}

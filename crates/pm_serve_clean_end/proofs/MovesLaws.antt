@@ -1,7 +1,7 @@
 -- From the entries of a journal to the children of the slots, and to the runs of their workers.
 use Rattle.std.{proofs.{Common.{◌≡◌, ◌≢◌, ◌⊎◌, inl, inr, ℕ, zero, suc, ◌<◌, Bool, true, false, fold, get_or, length, map, Option, None, Some, List, [], ◌∷◌, ◌++◌, refl, sym, ap, subst, ◌∙◌, arith}, lemmas.{Grind.flat_map-append, Option.slice_get-get_or, Bool.eq-eqb}}, specs.{Prelude.{◌==◌, if◌then◌else◌, unwrap_or}, List.{AllByRecursion, flat_map}}}
 use Rattle.pm_serve_crew.specs.pm_exit.declared.child.Kind.TheVariants as kind
-use Rattle.pm_serve_crew.specs.{pm_exit.Ends.is_exit_0, pm_supervisor.Children.is_startup_child, pm_state.declared.event.PmEvent.PmEvent, pm_board.{declared.views.{PastChild.PastChild, RosterView.RosterView, SlotView.SlotView}, Places.slot_at}, pm_supervisor_chain.Chain.{AreDistinct, InGeneration, IsPidOf}, pm_board_acts.{Board.{begun_of, ended_of}, Mails.kept_told, Calls.kept_by, Seating.{Begun, Ended, Kill, Move, Nothing, Notes, PidsEnd, PortEnds, Reads, Request, Seating, Stop, asked_by, begins, begun_at, begun_by, begun_from, empty, ended_at, ended_by, entries_by, entries_from, is_seated, journal_of, seating_by}, Standing.IsBoardOf}, pm_store_shared.declared.views.Noted.Noted, pm_query.declared.book.BookEntry.BookEntry, pm_worker.{declared.mail.MailTold.MailTold, Runs.{IsRun, Run}}, Left.{AreLeft, IsWorked, Manner}, Pids.{AreUsedOnce, pids_at}, Redos.{AreRedosOf, RedosAreThose, redo_ends_at, redo_ends_by, redo_told, told_if}}
+use Rattle.pm_serve_crew.specs.{pm_exit.Ends.is_exit_0, pm_supervisor.Children.is_startup_child, pm_state.declared.event.PmEvent.PmEvent, pm_board.{pm_board_words.declared.views.{PastChild.PastChild, RosterView.RosterView, SlotView.SlotView}, Places.slot_at}, pm_supervisor_chain.Chain.{AreDistinct, InGeneration, IsPidOf}, pm_board_acts.{Board.{begun_of, ended_of}, Mails.kept_told, Calls.kept_by, Seating.{Begun, Ended, Kill, Move, Nothing, Notes, PidsEnd, PortEnds, Reads, Request, Seating, Stop, asked_by, begins, begun_at, begun_by, begun_from, empty, ended_at, ended_by, entries_by, entries_from, is_seated, journal_of, seating_by}, Standing.IsBoardOf}, pm_store_shared.declared.views.Noted.Noted, pm_query.declared.book.BookEntry.BookEntry, pm_worker.{declared.mail.MailTold.MailTold, Runs.{IsRun, Run}}, Left.{AreLeft, IsWorked, Manner}, Pids.{AreUsedOnce, pids_at}, Redos.{AreRedosOf, RedosAreThose, redo_ends_at, redo_ends_by, redo_told, told_if}}
 use Rattle.pm_serve_crew.specs.pm_state.declared.event.PmEvent.TheVariants as entry
 use Rattle.pm_serve_clean_end.{specs.Among.{IsGiven, IsImage, IsIn, from_flat_map, from_map, in_back, in_either, in_flat_map, in_front, in_map, of_all}, proofs.EndsLaws.{begun_append, begun_in, generation_after}}
 

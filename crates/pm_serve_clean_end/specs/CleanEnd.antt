@@ -1,6 +1,6 @@
 -- What a clean end of a server of many connections leaves.
 use Rattle.std.specs.{Prelude.{◌≡◌, ◌≢◌, ℕ, true, All, List, [], ◌∷◌, ◌++◌, IfSome}, List.list_any}
-use Rattle.pm_serve_crew.specs.{pm_board.declared.views.RosterView.RosterView, Left.{AreLeft, Manner}, Pids.AreUsedOnce, Redos.RedosAreThose, Renewals.RenewsAsTold, pm_supervisor_journal.Stands.any_moment, pm_modes.declared.Mode.TheVariants.Immediate, pm_query.{declared.book.BookEntry.BookEntry, Book.{Base, history_of}}, pm_board_acts.{Seating.{Move, journal_of}, Standing.IsBoardOf}, pm_store_shared.declared.views.Noted.Noted, pm_state.{declared.event.PmEvent.PmEvent, Journal.IsLegal}, pm_supervisor.declared.{Ending.TheVariants.Clean, Limits.Limits}, pm_worker.declared.mail.MailTold.MailTold}
+use Rattle.pm_serve_crew.specs.{pm_board.pm_board_words.declared.views.RosterView.RosterView, Left.{AreLeft, Manner}, Pids.AreUsedOnce, Redos.RedosAreThose, Renewals.RenewsAsTold, pm_supervisor_journal.Stands.any_moment, pm_modes.declared.Mode.TheVariants.Immediate, pm_query.{declared.book.BookEntry.BookEntry, Book.{Base, history_of}}, pm_board_acts.{Seating.{Move, journal_of}, Standing.IsBoardOf}, pm_store_shared.declared.views.Noted.Noted, pm_state.{declared.event.PmEvent.PmEvent, Journal.IsLegal}, pm_supervisor.declared.{Ending.TheVariants.Clean, Limits.Limits}, pm_worker.declared.mail.MailTold.MailTold}
 use Rattle.pm_store_remains.specs.{Remains.IsLeft, pm_server.{Journal.asked_in, Story.AreLeftClean, Views.DiskView}}
 use Rattle.pm_serve_crew.specs.pm_state.declared.event.PmEvent.TheVariants as entry
 use Rattle.pm_serve_clean_end.specs.Latest.{ends_redo, latest}

@@ -1,6 +1,6 @@
 -- What holds of a book by those who noted its entries.
 use Rattle.std.{proofs.Common.{◌≡◌, ℕ, ◌+◌, ◌<◌, Bool, true, false, List, [], ◌∷◌, refl, sym, ap, subst, ◌∙◌, arith}, specs.{Prelude.{cond, ◌&&◌, ◌==◌}, List.AllByRecursion}}
-use Rattle.pm_board_acts.specs.{pm_board.declared.views.RosterView.RosterView, pm_worker.{declared.mail.MailTold.MailTold, Runs.noted_by}}
+use Rattle.pm_board_acts.specs.{pm_board.pm_board_words.declared.views.RosterView.RosterView, pm_worker.{declared.mail.MailTold.MailTold, Runs.noted_by}}
 use Rattle.pm_session_answers.specs.pm_query.declared.book.BookEntry.{BookEntry}
 use Rattle.pm_store_shared.specs.{declared.views.Noted.Noted, Log.{AllBelow, Line, book_of, entries_of, is_own, noted as noted_at, placed}}
 use Rattle.pm_serve_crew.{specs.{Left.{AreLeft, Manner}, Pids.AreUsedOnce}, proofs.EntriesLaws.entries_at}

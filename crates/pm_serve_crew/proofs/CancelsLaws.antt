@@ -1,6 +1,6 @@
 -- A child that was given a cancel is one for which another asked for it, with its key under the server's seed.
 use Rattle.std.{proofs.{Common.{◌≡◌, ◌⊎◌, inl, inr, ℕ, ◌<◌, ◌≤◌, List, [], ◌∷◌, Option, None, Some, get_or, length, map, refl, sym, ap, subst, ◌∙◌, arith}, lemmas.{List.{get_or_past, Elements.{Contains-append_cases, Contains-append_left, Contains-append_right, Contains-push, Contains-push_cases}}, Option.slice_get-get_or, Bool.cases_lt}}, specs.List.{AllByRecursion, Contains, flat_map}}
-use Rattle.pm_board_acts.specs.{pm_board.{declared.views.{Cancel.Cancel, Heard.Heard, LatchLook.LatchLook, PastChild.PastChild, PostNotes.PostNotes, RosterView.RosterView, Sight.TheVariants.{Gathered, Unused}, SlotView.SlotView}, Heard.{AllGathered, IsKnownAtLast, KnowsCancel}, Latches.{EachHeard, HeardBy, doings_of, times_told}, Models.cancel_of, Places.{slot_at, slot_view}, Seats.is_gathered}, pm_board_life.{Lives.{FindsNobody, FindsSomebody, Makes}, pm_latch.Cancelling.{HasKey, request}}, pm_worker.{declared.mail.MailTold.MailTold, Runs.{IsRun, Run}}}
+use Rattle.pm_board_acts.specs.{pm_board.{pm_board_words.declared.views.{Cancel.Cancel, Heard.Heard, LatchLook.LatchLook, PastChild.PastChild, PostNotes.PostNotes, RosterView.RosterView, Sight.TheVariants.{Gathered, Unused}, SlotView.SlotView}, Heard.{AllGathered, IsKnownAtLast, KnowsCancel}, Latches.{EachHeard, HeardBy, doings_of, times_told}, Models.cancel_of, Places.{slot_at, slot_view}, Seats.is_gathered}, pm_board_life.{Lives.{FindsNobody, FindsSomebody, Makes}, pm_latch.Cancelling.{HasKey, request}}, pm_worker.{declared.mail.MailTold.MailTold, Runs.{IsRun, Run}}}
 use Rattle.pm_session_answers.specs.pm_query.declared.book.BookEntry.{BookEntry}
 use Rattle.pm_store_shared.specs.declared.views.Noted.{Noted}
 use Rattle.pm_serve_crew.specs.{Cancels.{AskedRightly, CancelsWereAskedFor, WasAskedFor}, Left.{AreLeft, IsWorked, Manner}}

@@ -1,6 +1,6 @@
 -- After the join the book has of each child what its run noted.
 use Rattle.std.{proofs.{Common.{◌≡◌, ◌≢◌, inl, inr, ℕ, ◌+◌, ◌<◌, Bool, true, false, List, [], ◌∷◌, ◌++◌, None, Some, get_or, refl, sym, ap, subst, ◌∙◌, arith, append-nil}, lemmas.{List.Elements.filter-append, Option.slice_get-get_or}}, specs.{Prelude.{cond, map, slice_get, ◌&&◌, ◌==◌}, List.AllByRecursion}}
-use Rattle.pm_board_acts.specs.{pm_board.{declared.views.RosterView.RosterView, Places.slot_at}, pm_supervisor_chain.Chain.{AreDistinct, IsPidOf}, pm_worker.{declared.mail.MailTold.MailTold, Runs.{IsRun, Run, noted_by}}}
+use Rattle.pm_board_acts.specs.{pm_board.{pm_board_words.declared.views.RosterView.RosterView, Places.slot_at}, pm_supervisor_chain.Chain.{AreDistinct, IsPidOf}, pm_worker.{declared.mail.MailTold.MailTold, Runs.{IsRun, Run, noted_by}}}
 use Rattle.pm_session_answers.specs.{pm_query.declared.book.BookEntry.{BookEntry, TheVariants.{Opened, Gone}}, Own.{NoneBy, entries_by, is_by}}
 use Rattle.pm_store_shared.specs.{declared.views.Noted.Noted, Log.{AllBelow, Line, book_of, entries_of, is_own, noted as noted_at, placed}}
 use Rattle.pm_serve_crew.{specs.{Left.{AreLeft, IsWorked, Manner}, Pids.{AreEntriesOf, AreUsedOnce, pids_at}, Uses.{AllBy, UsesStore}}, proofs.{PidsLaws.differs, UsesLaws.{own_entries, uses}}}

@@ -1,7 +1,7 @@
 -- No two children of a server have one pid.
 use Rattle.std.{proofs.Common.{◌≡◌, ◌≢◌, ◌⊎◌, inl, inr, ℕ, ◌+◌, ◌≤◌, Bool, true, false, List, [], ◌∷◌, ◌++◌, refl, sym, ap, subst, ◌∙◌, arith, append_assoc}, specs.{Prelude.{◌==◌, if◌then◌else◌, is_none, map}, List.AllByRecursion}}
 use Rattle.pm_session_answers.specs.pm_facts.Bools.{cond-same}
-use Rattle.pm_board_acts.{specs.{pm_exit.declared.child.Kind.Kind, pm_supervisor.{declared.Limits.Limits, Shared.reopened, Supervisor.Shared}, pm_state.{declared.{action.Action.Action, event.PmEvent.PmEvent}, Journal.{AreLegal, Do, Due, EndRedo, Fits, FitsFirst, FollowsIn, IsLegal, Replay, all_replayed, replay_begun, replayed}}, pm_board.{declared.views.{PastChild.PastChild, RosterView.RosterView}, Places.slot_at}, pm_supervisor_chain.Chain.{AreDistinct, IsPidOf}, Board.begun_of, Seating.{Begun, Kill, Move, Nothing, Notes, PidsEnd, PortEnds, Reads, Seating, Stop, begun_at, begun_by, begun_from, empty, entries_by, entries_from, is_seated, journal_of, seating_by}, pm_worker.declared.mail.MailTold.MailTold}, proofs.pm_supervisor_chain.FoldsLaws.{pid_left, pid_right}}
+use Rattle.pm_board_acts.{specs.{pm_exit.declared.child.Kind.Kind, pm_supervisor.{declared.Limits.Limits, Shared.reopened, Supervisor.Shared}, pm_state.{declared.{action.Action.Action, event.PmEvent.PmEvent}, Journal.{AreLegal, Do, Due, EndRedo, Fits, FitsFirst, FollowsIn, IsLegal, Replay, all_replayed, replay_begun, replayed}}, pm_board.{pm_board_words.declared.views.{PastChild.PastChild, RosterView.RosterView}, Places.slot_at}, pm_supervisor_chain.Chain.{AreDistinct, IsPidOf}, Board.begun_of, Seating.{Begun, Kill, Move, Nothing, Notes, PidsEnd, PortEnds, Reads, Seating, Stop, begun_at, begun_by, begun_from, empty, entries_by, entries_from, is_seated, journal_of, seating_by}, pm_worker.declared.mail.MailTold.MailTold}, proofs.pm_supervisor_chain.FoldsLaws.{pid_left, pid_right}}
 use Rattle.pm_board_acts.specs.pm_supervisor.Steps as supervisor
 use Rattle.pm_board_acts.specs.pm_state.declared.action.Action.TheVariants as act
 use Rattle.pm_board_acts.specs.pm_state.declared.event.PmEvent.TheVariants as entry

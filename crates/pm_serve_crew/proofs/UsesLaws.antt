@@ -1,6 +1,6 @@
 -- Each run of a worker used the store once, or not at all, and has noted the end of redo that its child tells of.
 use Rattle.std.{proofs.{Common.{◌≡◌, ◌⊎◌, inl, inr, ℕ, Bool, true, false, List, [], ◌∷◌, ◌++◌, Option, Some, None, Result, Ok, Err, refl, sym, subst, ap, ◌∙◌}, lemmas.{List.Elements.recursion_from_All, Bool.eq-eqb}}, specs.{Prelude.{nat_eq, if◌then◌else◌, option_map, unwrap_or, IfSome}, List.AllByRecursion}}
-use Rattle.pm_board_acts.specs.{pm_admit.declared.Cac.Cac, pm_aux.{declared.{aux_done.AuxDone.AuxDone, cause.AuxiliaryEnd.{AuxiliaryEnd, TheVariants.{Flushed, Closed, LeftOut, Refused, ToldToTerminate, ToldToQuit, Killed, Redone as HasRedone}}}, Ends.status_by, Runs.{EndsOutside, NotesBehind, Runner}, Work.{ClosesBy, Flushes, HasEntered, IsKeptOut, IsPassing, LeavesIf, ReadsLog, Does as DoesWork}}, pm_board.{declared.views.{Offer.Offer, PastChild.PastChild}, Places.is_connection}, pm_supervisor_chain.Chain.{InGeneration, IsAmong, kept_of, redos_of}, pm_exit.{declared.child.{Kind.Kind, Status.Status}, Ends.is_exit_0}, pm_board_life.Lives.{IsAnswerTo, MetRightly}, Calls.kept_by, Mails.kept_told, pm_supervisor.Children.{is_dead_end, is_session, is_startup_child}, pm_worker.{declared.mail.{LinkTold.LinkTold, MailTold.MailTold}, Mails.IsFor, Runs.{Does, IsAuxRun, IsRun, IsSessionRun, Run, told_in}}}
+use Rattle.pm_board_acts.specs.{pm_admit.declared.Cac.Cac, pm_aux.{declared.{aux_done.AuxDone.AuxDone, cause.AuxiliaryEnd.{AuxiliaryEnd, TheVariants.{Flushed, Closed, LeftOut, Refused, ToldToTerminate, ToldToQuit, Killed, Redone as HasRedone}}}, Ends.status_by, Runs.{EndsOutside, NotesBehind, Runner}, Work.{ClosesBy, Flushes, HasEntered, IsKeptOut, IsPassing, LeavesIf, ReadsLog, Does as DoesWork}}, pm_board.{pm_board_words.declared.views.{Offer.Offer, PastChild.PastChild}, Places.is_connection}, pm_supervisor_chain.Chain.{InGeneration, IsAmong, kept_of, redos_of}, pm_exit.{declared.child.{Kind.Kind, Status.Status}, Ends.is_exit_0}, pm_board_life.Lives.{IsAnswerTo, MetRightly}, Calls.kept_by, Mails.kept_told, pm_supervisor.Children.{is_dead_end, is_session, is_startup_child}, pm_worker.{declared.mail.{LinkTold.LinkTold, MailTold.MailTold}, Mails.IsFor, Runs.{Does, IsAuxRun, IsRun, IsSessionRun, Run, told_in}}}
 use Rattle.pm_board_acts.specs.pm_admit.declared.Cac.TheVariants as decisions
 use Rattle.pm_board_acts.specs.pm_aux.Ends as ends
 use Rattle.pm_session_answers.specs.{Own.is_by, pm_session_exchange.{declared.ending.{Stage.{Stage, TheVariants.{Outside, Entering, Greeted}}, Cause.Cause as SessionCause}, Queries.{IsUnreleased, TurnNotes}, Sent.{Turn, Ran, Faulted, NotUtf8, Cancelled, LogIsFull, Memory}}, pm_child_life.{declared.life.{Attempt.Attempt, GateNo.GateNo}, Life.{Told, answer_met, attempt}}, pm_query.{Calls.{User, LeaveNotes, NotesFault, newcomer}, declared.{book.BookEntry.{BookEntry, TheVariants.{Opened, Attached, Answered, Released, Detached, Gone, Redone, Broke, LogFull, CheckpointEnded}}, store.StoreNo.{StoreNo, TheVariants.{Stale, Disk, Broken, Full, Redo, NoMemory}}}}, pm_session.Session.{AllNotes, BreaksOff, EndsAt, Ending, IsAdmitted, IsInside, IsText, Leaves, NotesOutside, StopsInside}}

@@ -1,6 +1,6 @@
 -- What the workers of a board leave once they were joined.
 use Rattle.std.specs.{Prelude.{◌≡◌, ◌<◌, ◌≤◌, ℕ, List, map, Option, None, Some, length, slice_get}, List.{AllByRecursion, flat_map}}
-use Rattle.pm_board_acts.specs.{pm_board.{declared.views.{PostNotes.PostNotes, RosterView.RosterView, Sight.TheVariants.Gathered}, Heard.HeardAsSent, Places.slot_at}, pm_exit.declared.child.Kind.TheVariants.Startup, pm_worker.{declared.mail.MailTold.MailTold, Runs.{IsRun, Run, noted_by}}}
+use Rattle.pm_board_acts.specs.{pm_board.{pm_board_words.declared.views.{PostNotes.PostNotes, RosterView.RosterView, Sight.TheVariants.Gathered}, Heard.HeardAsSent, Places.slot_at}, pm_exit.declared.child.Kind.TheVariants.Startup, pm_worker.{declared.mail.MailTold.MailTold, Runs.{IsRun, Run, noted_by}}}
 use Rattle.pm_board_acts.specs.pm_worker.declared.mail.MailTold.TheVariants as mail
 use Rattle.pm_session_answers.specs.pm_query.{declared.{book.BookEntry.BookEntry, store.StoreNo.TheVariants.Redo}, Book.generation_of}
 use Rattle.pm_store_shared.specs.{pm_disk.Files.Files, pm_record.declared.fault.RedoFault.RedoFault, declared.views.Noted.Noted, Log.{IsShuffle, entries_of}, Learned.IsUnread}

@@ -1,6 +1,6 @@
 -- The pids of the children that slots have had.
 use Rattle.std.specs.{Prelude.{◌≡◌, ◌≢◌, ℕ, List, map}, List.AllByRecursion}
-use Rattle.pm_board_acts.specs.{pm_board.{declared.views.RosterView.RosterView, Places.slot_at}, pm_supervisor_chain.Chain.{AreDistinct, IsPidOf}, pm_worker.{declared.mail.MailTold.MailTold, Runs.Run}}
+use Rattle.pm_board_acts.specs.{pm_board.{pm_board_words.declared.views.RosterView.RosterView, Places.slot_at}, pm_supervisor_chain.Chain.{AreDistinct, IsPidOf}, pm_worker.{declared.mail.MailTold.MailTold, Runs.Run}}
 use Rattle.pm_session_answers.specs.{pm_query.declared.book.BookEntry.BookEntry, Own.entries_by}
 
 -- of the children of the slot k that were released

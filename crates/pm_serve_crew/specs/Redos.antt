@@ -1,7 +1,7 @@
 -- The ends of redo that a supervisor told of, beside what its startup children kept.
 use Rattle.std.specs.{Prelude.{◌≡◌, ◌==◌, ℕ, if◌then◌else◌, List, [], ◌∷◌, ◌++◌, map, Option, None, Some}, List.flat_map}
 use Rattle.pm_board_acts.specs.pm_state.declared.event.PmEvent.TheVariants as entry
-use Rattle.pm_board_acts.specs.{pm_board.{declared.views.{PastChild.PastChild, RosterView.RosterView}, Places.slot_at}, pm_supervisor_chain.Chain.InGeneration, Board.ended_of, Calls.kept_by, Mails.kept_told, Seating.{Move, Notes, ended_at}, pm_worker.declared.mail.MailTold.MailTold}
+use Rattle.pm_board_acts.specs.{pm_board.{pm_board_words.declared.views.{PastChild.PastChild, RosterView.RosterView}, Places.slot_at}, pm_supervisor_chain.Chain.InGeneration, Board.ended_of, Calls.kept_by, Mails.kept_told, Seating.{Move, Notes, ended_at}, pm_worker.declared.mail.MailTold.MailTold}
 
 abbrev pub told_if : ℕ → Option ℕ → List InGeneration
 told_if generation None = []

@@ -1,7 +1,7 @@
 -- How a child used the store, and which end of redo it tells of.
 use Rattle.std.specs.{Prelude.{◌≡◌, ◌⊎◌, ℕ, true, false, List, [], ◌∷◌}, List.AllByRecursion}
 use Rattle.pm_session_answers.specs.{Own.is_by, pm_query.declared.book.BookEntry.{BookEntry, TheVariants.{Opened, Attached, Redone, Answered, Released, Detached, Gone, CheckpointEnded, Broke, LogFull}}}
-use Rattle.pm_board_acts.specs.{pm_board.declared.views.PastChild.PastChild, pm_supervisor_chain.Chain.{IsAmong, kept_of, redos_of}, pm_supervisor.Children.is_dead_end, pm_worker.declared.mail.MailTold.MailTold}
+use Rattle.pm_board_acts.specs.{pm_board.pm_board_words.declared.views.PastChild.PastChild, pm_supervisor_chain.Chain.{IsAmong, kept_of, redos_of}, pm_supervisor.Children.is_dead_end, pm_worker.declared.mail.MailTold.MailTold}
 use Rattle.pm_serve_crew.specs.Redos.{redo_told}
 
 -- all of them are entries of this child

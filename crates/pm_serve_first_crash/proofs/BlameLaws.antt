@@ -1,12 +1,12 @@
 -- The laws: the first crash of a server's journal has a cause, and a server that ends after a crash has had one.
 use Rattle.std.{proofs.{Common.{◌≡◌, ◌⊎◌, inl, inr, ℕ, ◌+◌, ◌<◌, ◌≤◌, Bool, true, false, not, cond, ◌&&◌, ◌||◌, List, [], ◌∷◌, ◌++◌, Option, None, Some, Err, refl, sym, ap, subst, ◌∙◌, arith, append_assoc}, lemmas.{Bool.{both_ways, false≢true, true≢false}, List.Elements.recursion_from_All}}, specs.{Prelude.is_some, List.{AllByRecursion, fold}}}
-use Rattle.pm_serve_crew.{specs.{pm_facts.Lists.{each_first, each_last}, pm_exit.{declared.child.{Kind.Kind, Status.TheVariants.Code}, Ends.{is_exit_0, is_exit_1}}, pm_supervisor.{declared.{Limits.Limits, Reason.{Reason, TheVariants.{Crash, Stop}}}, Steps.is_normal}, pm_state.{declared.{action.Action.Action, event.PmEvent.PmEvent, machine.Machine.Machine}, Exits.is_shutdown, Laws.RestartsSafely, Promises.{has_act, is_ask_checkpoint, is_terminate}, Journal.{IsLegal, Replay, all_replayed, replay_begun}}, pm_child_life.Life.{Checkpoint, Quit, Told, attempt, was_told}, pm_supervisor_journal.Stands.any_moment, pm_board.{declared.views.{Offer.Offer, RosterStep.RosterStep, RosterView.RosterView}, Gate.first_gate, Heard.IsKnownAtLast, Latches.{AnsweredBefore, HeardRightly, doings_of, times_given, times_sent}}, pm_query.declared.book.BookEntry.{BookEntry, TheVariants.Broke}, pm_segment.{Moves.IsShown, Unread.is_break}, pm_board_acts.Seating.{Ended, Move, Notes, Seating, board_steps, empty, entries_from, journal_of, seating_by, seating_from, seating_of, steps_from}, pm_store_shared.declared.views.Noted.Noted, pm_worker.{declared.mail.MailTold.MailTold, Runs.told_in}, Left.Manner, pm_supervisor_chain.Chain.IsPidOf}, proofs.{pm_board.BoardLaws.sent-append, pm_board_acts.FoldingLaws.{seating-append, steps-append}, PidsLaws.pids_in}}
+use Rattle.pm_serve_crew.{specs.{pm_facts.Lists.{each_first, each_last}, pm_exit.{declared.child.{Kind.Kind, Status.TheVariants.Code}, Ends.{is_exit_0, is_exit_1}}, pm_supervisor.{declared.{Limits.Limits, Reason.{Reason, TheVariants.{Crash, Stop}}}, Steps.is_normal}, pm_state.{declared.{action.Action.Action, event.PmEvent.PmEvent, machine.Machine.Machine}, Exits.is_shutdown, Laws.RestartsSafely, Promises.{has_act, is_ask_checkpoint, is_terminate}, Journal.{IsLegal, Replay, all_replayed, replay_begun}}, pm_child_life.Life.{Checkpoint, Quit, Told, attempt, was_told}, pm_supervisor_journal.Stands.any_moment, pm_board.{pm_board_words.declared.views.{Offer.Offer, RosterStep.RosterStep, RosterView.RosterView}, Gate.first_gate, Heard.IsKnownAtLast, Latches.{AnsweredBefore, HeardRightly, doings_of, times_given, times_sent}}, pm_query.declared.book.BookEntry.{BookEntry, TheVariants.Broke}, pm_segment.{Moves.IsShown, Unread.is_break}, pm_board_acts.Seating.{Ended, Move, Notes, Seating, board_steps, empty, entries_from, journal_of, seating_by, seating_from, seating_of, steps_from}, pm_store_shared.declared.views.Noted.Noted, pm_worker.{declared.mail.MailTold.MailTold, Runs.told_in}, Left.Manner, pm_supervisor_chain.Chain.IsPidOf}, proofs.{pm_board.BoardLaws.sent-append, pm_board_acts.FoldingLaws.{seating-append, steps-append}, PidsLaws.pids_in}}
 use Rattle.pm_store_remains.{specs.{pm_disk.Cause.Rose, pm_server.Views.DiskView, Remains.Remains}, proofs.{pm_state.ReplayLaws.{acts_in, ends_at, legal_behind, legal_front}, pm_server.CalmLaws.{is_closing, shuts}}}
 use Rattle.pm_serve_crew.specs.pm_child_life.declared.life.GateNo.TheVariants as gate_no
 use Rattle.pm_serve_crew.specs.pm_exit.declared.child.Class.TheVariants as class
 use Rattle.pm_serve_crew.specs.pm_exit.declared.child.Kind.TheVariants as kinds
 use Rattle.pm_serve_crew.specs.pm_state.declared.event.PmEvent.TheVariants as entry
-use Rattle.pm_serve_crew.specs.pm_board.declared.views.RosterStep.TheVariants as step
+use Rattle.pm_serve_crew.specs.pm_board.pm_board_words.declared.views.RosterStep.TheVariants as step
 use Rattle.pm_supervisor_crashes.{specs.Crashes.{HasNoCrash, IsFirstCrash, IsHarmless, IsUnasked, is_crash, stands_behind}, proofs.FirstLaws.{FirstFrom, first_or_none, no_crash_more}}
 use Rattle.pm_serve_first_crash.{specs.Causes.{HasCause, IsBlamed, IsUnbroken, IsUnprovoked}, proofs.{CalmLaws.{IsCalm, SoFar, nothing_so_far, told_after}, JournalLaws.{StaysCalm, checkpointer_there, never_again, stays_calm}, RunsLaws.{Outcome, EndedFine, WasKilled, WasToldToQuit, MetNotice, GaveUp, DiskFailed, HadNoRedo, WasShort, WasSpent, FoundOther, IsFineAs, outcome}, GivenLaws.{checkpoint_given, kill_given, number_of, quit_given, terminate_given}, SendsLaws.{SitsNowhere, final_sends, may_send, nowhere_from, quiet, quiet_before, quiet_gate, unreached, unsent}, FindLaws.{IsKnownRun, NotedAt, RunOf, gone, its_run, near, noted_at}}}
 

@@ -1,6 +1,6 @@
 -- The children of a board: those of one pid are one, startup children were started in the journal, and the last checkpointer.
 use Rattle.std.{proofs.{Common.{◌≡◌, ◌≢◌, inl, inr, ℕ, zero, suc, ◌<◌, Bool, true, false, List, [], ◌∷◌, ◌++◌, length, map, nat_eq, refl, sym, ap, subst, ◌∙◌, arith}, lemmas.{Bool.{eqb-false, eqb-true}, List.Elements.{All-contains, All-from_recursion, Contains-append_right}}}, specs.{Prelude.{if◌then◌else◌, ◌==◌}, List.{AllByRecursion, Contains, flat_map}}}
-use Rattle.pm_serve_crew.specs.{pm_facts.Lists.{each_both, each_first, each_second}, pm_exit.declared.child.Kind.Kind, pm_admit.declared.Cac.Cac, pm_supervisor.{Children.{is_checkpointer, is_dead_end}, Steps.kind_for}, pm_state.declared.event.PmEvent.PmEvent, pm_board.{declared.views.{PastChild.PastChild, RosterView.RosterView}, Places.slot_at}, pm_supervisor_chain.Chain.{AreDistinct, IsPidOf}, pm_board_acts.Seating.{Begun, Ended, Move, Notes, PidsEnd, PortEnds, Reads, Seating, begins, begun_by, begun_from, ended_by, entries_by, entries_from, seating_by}, pm_worker.declared.mail.MailTold.MailTold, Pids.{AreUsedOnce, pids_at}}
+use Rattle.pm_serve_crew.specs.{pm_facts.Lists.{each_both, each_first, each_second}, pm_exit.declared.child.Kind.Kind, pm_admit.declared.Cac.Cac, pm_supervisor.{Children.{is_checkpointer, is_dead_end}, Steps.kind_for}, pm_state.declared.event.PmEvent.PmEvent, pm_board.{pm_board_words.declared.views.{PastChild.PastChild, RosterView.RosterView}, Places.slot_at}, pm_supervisor_chain.Chain.{AreDistinct, IsPidOf}, pm_board_acts.Seating.{Begun, Ended, Move, Notes, PidsEnd, PortEnds, Reads, Seating, begins, begun_by, begun_from, ended_by, entries_by, entries_from, seating_by}, pm_worker.declared.mail.MailTold.MailTold, Pids.{AreUsedOnce, pids_at}}
 use Rattle.pm_serve_crew.specs.pm_exit.declared.child.Kind.TheVariants as kinds
 use Rattle.pm_serve_crew.specs.pm_admit.declared.Cac.TheVariants as decisions
 use Rattle.pm_serve_crew.specs.pm_state.declared.event.PmEvent.TheVariants as entry

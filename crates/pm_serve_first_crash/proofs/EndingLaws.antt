@@ -1,7 +1,7 @@
 -- What a server ends with whose first crash is that of a startup child, or of a checkpointer that can't make the last checkpoint, where
 -- the disk didn't fail, the files can be read, the log has another epoch, and no child ends by signal 6.
 use Rattle.std.{proofs.{Common.{◌≡◌, ◌⊎◌, inl, inr, ℕ, ◌<◌, Bool, true, false, List, [], ◌∷◌, ◌++◌, None, Some, refl, sym, ap, subst, ◌∙◌}, lemmas.{Bool.{eq-eqb, false≢true, true≢false}, Grind.flat_map-append, List.{Elements.{All-from_recursion}, Folds.list_any_none}}}, specs.{Prelude.{IfSome, if◌then◌else◌, unwrap_or}, List.{AllByRecursion, Contains}}}
-use Rattle.pm_serve_crew.{specs.{pm_facts.Lists.each_both, pm_exit.{declared.child.{Kind.Kind, Status.{Status, TheVariants.{Code, Signal}}}, Ends.is_exit_0}, pm_supervisor.{declared.{Limits.Limits}, Children.is_startup_child}, pm_state.{declared.event.PmEvent.PmEvent, Exits.is_shutdown}, pm_board.{declared.views.{PastChild.PastChild, RosterView.RosterView}, Places.slot_at}, pm_supervisor_chain.Chain.InGeneration, pm_query.declared.{book.BookEntry.{BookEntry, TheVariants.{Redone}}, store.StoreNo.TheVariants.{Full, NoMemory, Redo}}, pm_segment.{pm_redo.Found.IsReason, Redos.SaysNothing, Unread.{has_break, has_redo, is_break, is_redo}}, pm_board_acts.{Board.{begun_of, ended_of}, Mails.kept_told, Seating.{Begun, Ended, Move, Notes, begun_at, empty, ended_at, ended_by, ends, journal_of, seating_by, seating_from}, Standing.SeatServes}, pm_store_shared.{declared.views.Noted.Noted, Log.is_own}, pm_worker.{declared.mail.MailTold.MailTold, Runs.{Run, noted_by}}, Left.{IsBorneOut, Manner}, Redos.{redo_told, told_if}, Uses.{IsWorkOf, UsesStore}}, proofs.{BookLaws.in_book, EntriesLaws.{runs_use, worked}}}
+use Rattle.pm_serve_crew.{specs.{pm_facts.Lists.each_both, pm_exit.{declared.child.{Kind.Kind, Status.{Status, TheVariants.{Code, Signal}}}, Ends.is_exit_0}, pm_supervisor.{declared.Limits.Limits, Children.is_startup_child}, pm_state.{declared.event.PmEvent.PmEvent, Exits.is_shutdown}, pm_board.{pm_board_words.declared.views.{PastChild.PastChild, RosterView.RosterView}, Places.slot_at}, pm_supervisor_chain.Chain.InGeneration, pm_query.declared.{book.BookEntry.{BookEntry, TheVariants.Redone}, store.StoreNo.TheVariants.{Full, NoMemory, Redo}}, pm_segment.{pm_redo.Found.IsReason, Redos.SaysNothing, Unread.{has_break, has_redo, is_break, is_redo}}, pm_board_acts.{Board.{begun_of, ended_of}, Mails.kept_told, Seating.{Begun, Ended, Move, Notes, begun_at, empty, ended_at, ended_by, ends, journal_of, seating_by, seating_from}, Standing.SeatServes}, pm_store_shared.{declared.views.Noted.Noted, Log.is_own}, pm_worker.{declared.mail.MailTold.MailTold, Runs.{Run, noted_by}}, Left.{IsBorneOut, Manner}, Redos.{redo_told, told_if}, Uses.{IsWorkOf, UsesStore}}, proofs.{BookLaws.in_book, EntriesLaws.{runs_use, worked}}}
 use Rattle.pm_serve_crew.specs.pm_exit.declared.child.Kind.TheVariants as kinds
 use Rattle.pm_serve_crew.specs.pm_supervisor.declared.Ending.TheVariants as endings
 use Rattle.pm_serve_crew.specs.pm_state.declared.event.PmEvent.TheVariants as entry

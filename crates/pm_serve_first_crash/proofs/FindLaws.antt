@@ -1,6 +1,6 @@
 -- The move that notes the end of a child, and the run that this is the end of.
 use Rattle.std.{proofs.{Common.{◌≡◌, ◌≢◌, ◌⊎◌, inl, inr, ℕ, zero, suc, ◌<◌, Bool, true, false, cond, List, [], ◌∷◌, ◌++◌, Option, None, Some, get_or, length, map, nat_eq, refl, set, sym, ap, subst, ◌∙◌, arith}, lemmas.{Grind.flat_map-append, Option.slice_get-get_or, Bool.eq-eqb}}, specs.{Prelude.{slice_index_or, replicate}, List.{AllByRecursion, Contains, flat_map}}}
-use Rattle.pm_serve_crew.{specs.{pm_state.declared.event.PmEvent.PmEvent, pm_board.{declared.views.{Heard.Heard, PastChild.PastChild, RosterView.RosterView, Sight.TheVariants.Unused, SlotView.SlotView}, Heard.IsKnownAtLast, Latches.{EachHeard, HeardBy, doings_of}, Places.{slot_at, slot_view}}, pm_supervisor_chain.Chain.IsPidOf, pm_supervisor_journal.declared.roll.Enrolled.Enrolled, pm_query.declared.book.BookEntry.BookEntry, pm_session_answers.Own.{is_by, entries_by as own_entries}, pm_board_acts.{Board.{ended_of, seat_at}, Seating.{Ended, Kill, Move, Nothing, Notes, PidsEnd, PortEnds, Reads, Request, Seating, Stop, asked_by, begun_at, begun_from, empty, ended_at, ended_by, ends, entries_by, entries_from, is_seated, seating_by, seating_from}, Standing.IsBoardOf}, pm_store_shared.declared.views.Noted.Noted, pm_worker.{declared.mail.MailTold.MailTold, Runs.{IsRun, Run}}, Left.{AreLeft, IsWorked, Manner}, Pids.{AreEntriesOf, AreUsedOnce}}, proofs.{pm_board_acts.{FoldingLaws.begun-append, EndedLaws.{Among, among_behind, among_front}}, EntriesLaws.entries_of_runs, PidsLaws.{begun_pids, pid_either, pids_of_past}, CancelsLaws.each_heard}}
+use Rattle.pm_serve_crew.{specs.{pm_state.declared.event.PmEvent.PmEvent, pm_board.{pm_board_words.declared.views.{Heard.Heard, PastChild.PastChild, RosterView.RosterView, Sight.TheVariants.Unused, SlotView.SlotView}, Heard.IsKnownAtLast, Latches.{EachHeard, HeardBy, doings_of}, Places.{slot_at, slot_view}}, pm_supervisor_chain.Chain.IsPidOf, pm_supervisor_journal.declared.roll.Enrolled.Enrolled, pm_query.declared.book.BookEntry.BookEntry, pm_session_answers.Own.{is_by, entries_by as own_entries}, pm_board_acts.{Board.{ended_of, seat_at}, Seating.{Ended, Kill, Move, Nothing, Notes, PidsEnd, PortEnds, Reads, Request, Seating, Stop, asked_by, begun_at, begun_from, empty, ended_at, ended_by, ends, entries_by, entries_from, is_seated, seating_by, seating_from}, Standing.IsBoardOf}, pm_store_shared.declared.views.Noted.Noted, pm_worker.{declared.mail.MailTold.MailTold, Runs.{IsRun, Run}}, Left.{AreLeft, IsWorked, Manner}, Pids.{AreEntriesOf, AreUsedOnce}}, proofs.{pm_board_acts.{FoldingLaws.begun-append, EndedLaws.{Among, among_behind, among_front}}, EntriesLaws.entries_of_runs, PidsLaws.{begun_pids, pid_either, pids_of_past}, CancelsLaws.each_heard}}
 use Rattle.pm_serve_crew.specs.pm_state.declared.event.PmEvent.TheVariants as entry
 use Rattle.pm_serve_first_crash.{specs.Causes.IsUnbroken, proofs.SendsLaws.{SitsNowhere, nowhere, pids_of_append, sat_or_began, seat_set}}
 

@@ -1,6 +1,6 @@
 -- A child that was told something was given it in some answer.
 use Rattle.std.{proofs.{Common.{◌≡◌, ◌⊎◌, inl, inr, ℕ, ◌+◌, ◌<◌, Bool, true, false, List, [], ◌∷◌, ◌++◌, Option, None, Some, refl, sym, ap, ◌∙◌, arith}, lemmas.{List.Elements.{All-contains, All-from_recursion}, Bool.eq-eqb}}, specs.{Prelude.{map, nat_eq}, List.{AllByRecursion, fold}}}
-use Rattle.pm_serve_crew.specs.{pm_facts.{Lists.each_both, Numbers.above_zero}, pm_supervisor.declared.Reason.{Reason, TheVariants.{Crash, Stop}}, pm_child_life.{declared.life.Signals.Signals, Life.{Signal, Kill, Quit, Terminate, Cancel, Checkpoint, Told, asked_again, nothing_told, one_if, quit_in, signals_in, was_told}}, pm_board.{declared.views.Heard.Heard, Latch.{is_crash, is_given, is_stop}, Latches.times_given, Words.bit}, pm_board_life.Lives.told_by}
+use Rattle.pm_serve_crew.specs.{pm_facts.{Lists.each_both, Numbers.above_zero}, pm_supervisor.declared.Reason.{Reason, TheVariants.{Crash, Stop}}, pm_child_life.{declared.life.Signals.Signals, Life.{Signal, Kill, Quit, Terminate, Cancel, Checkpoint, Told, asked_again, nothing_told, one_if, quit_in, signals_in, was_told}}, pm_board.{pm_board_words.{declared.views.Heard.Heard, Latch.{is_crash, is_given, is_stop}, Words.bit}, Latches.times_given}, pm_board_life.Lives.told_by}
 
 -- the number of a signal that a child takes; a cancel has none of a latch
 abbrev pub number_of : Signal → ℕ

@@ -1,9 +1,9 @@
 -- Which signals the moves of a supervisor send to a child, and whom they reach.
 use Rattle.std.{proofs.{Common.{◌≡◌, ◌≢◌, ◌⊎◌, inl, inr, ℕ, zero, suc, ◌+◌, ◌<◌, Bool, true, false, cond, List, [], ◌∷◌, ◌++◌, Option, None, Some, length, refl, sym, ap, subst, ◌∙◌, arith, set}, lemmas.Bool.ne_eqb}, specs.{Prelude.{IfSome, nat_eq, ◌&&◌}, List.{AllByRecursion, flat_map}}}
-use Rattle.pm_serve_crew.{specs.{pm_facts.Lists.{each_both, each_first, each_second}, pm_exit.declared.child.Kind.Kind, pm_supervisor.{declared.Reason.Reason, Steps.kind_for}, pm_state.declared.event.PmEvent.PmEvent, pm_board.{declared.views.{RosterStep.RosterStep, Signal.Signal}, Gate.{Gate, gate_after, gate_of_steps}, Latch.signal_number, Latches.{NotReleased, times_sent}, Words.bit}, pm_supervisor_chain.Chain.IsPidOf, pm_supervisor_journal.declared.roll.Enrolled.Enrolled, pm_board_acts.{declared.audience.Audience.{Audience, TheVariants.{Everyone, Stoppable, Checkpointer, One}}, Board.seat_at, Seating.{Move, Notes, PidsEnd, PortEnds, Reads, Seating, begun_by, begun_from, child, entries_by, entries_from, is_meant, seated, seating_by, seating_from, with_seat, Begun, sends_from, slot_in, steps_by, steps_from, steps_of}, Standing.IsFinal}}, proofs.{pm_board.BoardLaws.sent-append, PidsLaws.{begun_pids, pid_either, pids_append, pids_by, pids_in}}}
+use Rattle.pm_serve_crew.{specs.{pm_facts.Lists.{each_both, each_first, each_second}, pm_exit.declared.child.Kind.Kind, pm_supervisor.{declared.Reason.Reason, Steps.kind_for}, pm_state.declared.event.PmEvent.PmEvent, pm_board.{pm_board_words.{declared.views.{RosterStep.RosterStep, Signal.Signal}, Latch.signal_number, Words.bit}, Gate.{Gate, gate_after, gate_of_steps}, Latches.{NotReleased, times_sent}}, pm_supervisor_chain.Chain.IsPidOf, pm_supervisor_journal.declared.roll.Enrolled.Enrolled, pm_board_acts.{declared.audience.Audience.{Audience, TheVariants.{Everyone, Stoppable, Checkpointer, One}}, Board.seat_at, Seating.{Move, Notes, PidsEnd, PortEnds, Reads, Seating, begun_by, begun_from, child, entries_by, entries_from, is_meant, seated, seating_by, seating_from, with_seat, Begun, sends_from, slot_in, steps_by, steps_from, steps_of}, Standing.IsFinal}}, proofs.{pm_board.BoardLaws.sent-append, PidsLaws.{begun_pids, pid_either, pids_append, pids_by, pids_in}}}
 use Rattle.pm_serve_crew.specs.pm_state.declared.event.PmEvent.TheVariants as entry
-use Rattle.pm_serve_crew.specs.pm_board.declared.views.RosterStep.TheVariants as step
-use Rattle.pm_serve_crew.specs.pm_board.declared.views.Signal.TheVariants as signal
+use Rattle.pm_serve_crew.specs.pm_board.pm_board_words.declared.views.RosterStep.TheVariants as step
+use Rattle.pm_serve_crew.specs.pm_board.pm_board_words.declared.views.Signal.TheVariants as signal
 use Rattle.pm_supervisor_crashes.specs.Crashes.{IsHarmless}
 
 -- ---- how often

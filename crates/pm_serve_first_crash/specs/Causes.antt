@@ -1,7 +1,7 @@
 -- What the first crash of a server's journal is due to.
 use Rattle.std.specs.{Prelude.{◌≡◌, ◌≢◌, ◌⊎◌, ◌<◌, ℕ, true, false, List, [], ◌∷◌, Some, None}, List.{AllByRecursion, Contains}}
 use Rattle.pm_serve_crew.specs.pm_exit.declared.child.Kind.TheVariants as kinds
-use Rattle.pm_serve_crew.specs.{pm_exit.declared.child.Status.TheVariants.{Code, Signal}, pm_admit.declared.Cac.Cac, pm_supervisor.declared.Limits.Limits, pm_state.{declared.{event.PmEvent.PmEvent, machine.Machine.Machine}, Exits.is_shutdown, Journal.IsLegal}, pm_supervisor_journal.Stands.any_moment, pm_board.declared.views.RosterView.RosterView, pm_query.declared.{book.BookEntry.BookEntry, store.StoreNo.{StoreNo, TheVariants.{Stale, Full, Redo, NoMemory}}}, pm_session_exchange.declared.ending.Cause.TheVariants.Overtaken, pm_segment.Unread.is_break, pm_board_acts.{Board.ended_of, Seating.{Move, ends, journal_of}, Standing.IsBoardOf}, pm_store_shared.declared.views.Noted.Noted, pm_worker.{declared.mail.{LinkTold.LinkTold, MailTold.MailTold}, Runs.{IsSessionRun, Run}}, Left.{AreLeft, Manner}, Pids.AreUsedOnce}
+use Rattle.pm_serve_crew.specs.{pm_exit.declared.child.Status.TheVariants.{Code, Signal}, pm_admit.declared.Cac.Cac, pm_supervisor.declared.Limits.Limits, pm_state.{declared.{event.PmEvent.PmEvent, machine.Machine.Machine}, Exits.is_shutdown, Journal.IsLegal}, pm_supervisor_journal.Stands.any_moment, pm_board.pm_board_words.declared.views.RosterView.RosterView, pm_query.declared.{book.BookEntry.BookEntry, store.StoreNo.{StoreNo, TheVariants.{Stale, Full, Redo, NoMemory}}}, pm_session_exchange.declared.ending.Cause.TheVariants.Overtaken, pm_segment.Unread.is_break, pm_board_acts.{Board.ended_of, Seating.{Move, ends, journal_of}, Standing.IsBoardOf}, pm_store_shared.declared.views.Noted.Noted, pm_worker.{declared.mail.{LinkTold.LinkTold, MailTold.MailTold}, Runs.{IsSessionRun, Run}}, Left.{AreLeft, Manner}, Pids.AreUsedOnce}
 use Rattle.pm_supervisor_crashes.specs.Crashes.{IsUnasked}
 use Rattle.pm_store_remains.specs.pm_record.declared.fault.RedoFault.{RedoFault}
 use Rattle.pm_store_remains.specs.pm_record.declared.fault.RedoFault.TheVariants as redo

@@ -1,7 +1,7 @@
 -- A board whose one slot has had the child that closes its worker.
 use Rattle.std.{proofs.{Common.{◌≡◌, ◌≢◌, ℕ, List, [], ◌∷◌, ◌++◌, map, sym, ap, ◌∙◌, subst, append_assoc}, lemmas.List.map-append}, specs.{List.AllByRecursion, Prelude.Option}}
 use native.Mathlib.Decide.{ℕ_discrete}
-use Rattle.pm_serve_crew.specs.{pm_facts.Lists.each_both, pm_exit.declared.child.Kind.TheVariants.DeadEnd, pm_board.{declared.views.{RosterStep.RosterStep, RosterView.RosterView}, Places.slot_at}, pm_supervisor_journal.declared.roll.Enrolled.Enrolled, pm_board_acts.{Board.{begun_of, ended_of}, Seating.{Begun, Ended, begun_at, board_steps, ended_at, seating_of}, Standing.{AreClosing, IsFinal}}, pm_worker.declared.mail.MailTold.MailTold}
+use Rattle.pm_serve_crew.specs.{pm_facts.Lists.each_both, pm_exit.declared.child.Kind.TheVariants.DeadEnd, pm_board.{pm_board_words.declared.views.{RosterStep.RosterStep, RosterView.RosterView}, Places.slot_at}, pm_supervisor_journal.declared.roll.Enrolled.Enrolled, pm_board_acts.{Board.{begun_of, ended_of}, Seating.{Begun, Ended, begun_at, board_steps, ended_at, seating_of}, Standing.{AreClosing, IsFinal}}, pm_worker.declared.mail.MailTold.MailTold}
 use Rattle.pm_serve_pool.specs.Closing.{HasHadLast, KeepsBoard}
 
 -- with one child more after those so far

@@ -1,7 +1,7 @@
 -- The workers of the first slots, one slot further.
 use Rattle.std.{proofs.Common.{◌≡◌, ◌≢◌, ◌⊎◌, inl, inr, ℕ, ◌+◌, ◌<◌, List, [], ◌∷◌, ◌++◌, length, map, refl, sym, ap, ◌∙◌, subst, arith, append-nil, length-append}, specs.{Prelude.{None, Some, slice_get}, List.AllByRecursion}}
 use native.Mathlib.Decide.{ℕ_discrete}
-use Rattle.pm_serve_crew.specs.{pm_facts.Lists.same_everywhere, pm_board.{declared.views.{SessionLimit.SessionLimit, RosterView.RosterView, PastChild.PastChild, Sight.TheVariants.{Unused, Gathered}}, Heard.HeardAsSent, Places.{slot_at, slot_view}, Rule.{at_put, put}, Told.new_roster}, pm_store_shared.{declared.views.{Joined.Joined, Noted.Noted}, Log.entries_of, Told.{SharedModel, shared_with}}, pm_worker.{declared.mail.MailTold.MailTold, Runs.{Does, IsRun, Run, close_run, noted_by}}, Left.{IsBorneOut, IsWorked, Manner}}
+use Rattle.pm_serve_crew.specs.{pm_facts.Lists.same_everywhere, pm_board.{pm_board_words.declared.views.{SessionLimit.SessionLimit, RosterView.RosterView, PastChild.PastChild, Sight.TheVariants.{Unused, Gathered}}, Heard.HeardAsSent, Places.{slot_at, slot_view}, Rule.{at_put, put}, Told.new_roster}, pm_store_shared.{declared.views.{Joined.Joined, Noted.Noted}, Log.entries_of, Told.{SharedModel, shared_with}}, pm_worker.{declared.mail.MailTold.MailTold, Runs.{Does, IsRun, Run, close_run, noted_by}}, Left.{IsBorneOut, IsWorked, Manner}}
 use Rattle.pm_serve_crew.specs.pm_worker.declared.mail.MailTold.TheVariants as told
 use Rattle.pm_serve_pool.{specs.{Closing.{AreClosed, HasClosedOne, HasHadLast, IsShut, MayClose}, Works.AreUnused}, proofs.{Lists.{all_of_each, got_end, got_within}, Slots.near_or_here}}
 

@@ -1,12 +1,12 @@
 -- Works, one more in front of those so far.
-use Rattle.std.{proofs.Common.{◌≡◌, ℕ, ◌+◌, List, [], ◌∷◌, ◌++◌, length, ap, ◌∙◌, subst, arith, length-append}, specs.{Prelude.{Option, Some, slice_get}, Option.option_to_list}}
+use Rattle.std.{proofs.Common.{◌≡◌, ℕ, ◌+◌, List, [], ◌∷◌, ◌++◌, length, sym, ap, ◌∙◌, subst, arith, length-append}, specs.{Prelude.{Option, Some, slice_get}, Option.option_to_list}}
 use Rattle.atomic_table.specs.Seated.{TableId}
-use Rattle.pm_serve_crew.specs.{pm_facts.Lists.got_last, pm_board.{declared.views.SessionLimit.SessionLimit, Models.{AreNewPosts, PostModel}, Rule.idle_post}, pm_store_shared.{declared.token_store.TokenStore.TokenStore, Told.{AreNewTokens, SharedModel, TokenModel}}, pm_worker.declared.{child.Child.Child, mail.MailTold.MailTold}}
+use Rattle.pm_serve_crew.specs.{pm_facts.Lists.got_last, pm_board.{pm_board_words.declared.views.SessionLimit.SessionLimit, Models.{AreNewPosts, PostModel}, Rule.idle_post}, pm_store_shared.{declared.token_store.TokenStore.TokenStore, Told.{AreNewTokens, SharedModel, TokenModel}}, pm_worker.declared.{child.Child.Child, mail.MailTold.MailTold}}
 use Rattle.pm_serve_pool.{specs.{declared.plan.Terms.Terms, Plan.sessions_of, Works.{EachFrom, IsUnusedToken, IsWorkOf}}, proofs.Lists.one_before}
 
 -- the idle post of the slot k
 abbrev pub IsPostOf : (board : TableId) (limit : SessionLimit) (k : ℕ) → PostModel MailTold → Type 0
-IsPostOf board limit k post = post ≡ record { table = board; slot = k; knows = idle_post limit }
+IsPostOf board limit k post = post ≡ record { table = board; slot = k; knows = idle_post limit; home = post.home }
 
 pub posts_first : (n : ℕ) (limit : SessionLimit) (board : TableId) (posts : List (PostModel MailTold)) → AreNewPosts n limit board posts → EachFrom (IsPostOf board limit) 0 posts
 posts_first n limit board posts new i post at =
@@ -44,7 +44,7 @@ module _ {R C L D B : Type 0} {link : _} (gives : C → ℕ → Type 0) (terms :
       → work.store.token ≡ token → IsWorkOf gives terms board home first k work
   one_work k token post clock work unused is_post moments clock_is seed conf post_is token_is =
       record {
-        post_is = post_is ∙ is_post;
+        post_is = subst (IsPostOf board (sessions_of terms.plan.limits) k) (sym post_is) is_post;
         home_is = ap (λ (t : TokenModel D). t.table) token_is ∙ unused.0.home_is;
         disk = ap (λ (t : TokenModel D). t.first) token_is ∙ unused.1;
         number = ap (λ (t : TokenModel D). t.number) token_is ∙ unused.0.number;

@@ -2,7 +2,7 @@
 use Rattle.std.{proofs.Common.{◌≡◌, ℕ, List, [], ◌++◌, ◌∷◌, map, ap, ◌∙◌, subst}, specs.{Prelude.{Option, None}, List.{AllByRecursion, flat_map}}}
 use Rattle.atomic_table.specs.Seated.{TableId}
 use Rattle.pm_store_shared.specs.pm_disk.declared.disk.Disk as Disk
-use Rattle.pm_serve_crew.specs.{pm_board.{Models.PostModel, declared.views.Work.TheVariants.Idle}, pm_query.{Book.generation_of, Calls.{DiskFact, unread_for}}, pm_store_shared.{pm_record.declared.fault.RedoFault.RedoFault, Grows.Grew, Log.entries_of, Learned.IsUnread, Told.TokenModel}, pm_worker.{declared.{mail.MailTold.MailTold, tools.Tools.Tools}, Runs.{HasClosed, IsKnownBy, IsRun, Run, noted_by}}, Left.{IsBorneOut, Manner}}
+use Rattle.pm_serve_crew.specs.{pm_board.{Models.PostModel, pm_board_words.declared.views.Work.TheVariants.Idle}, pm_query.{Book.generation_of, Calls.{DiskFact, unread_for}}, pm_store_shared.{pm_record.declared.fault.RedoFault.RedoFault, Grows.Grew, Log.entries_of, Learned.IsUnread, Told.TokenModel}, pm_worker.{declared.{mail.MailTold.MailTold, tools.Tools.Tools}, Runs.{HasClosed, IsKnownBy, IsRun, Run, noted_by}}, Left.{IsBorneOut, Manner}}
 use Rattle.pm_serve_pool.{specs.{declared.plan.Terms.Terms, Plan.{files_of, manner_of}, Works.IsNewWork}, proofs.Moments.are_runs}
 
 pub record Leaves {F : Type 0} (manner : Manner) (board home : TableId) (k : ℕ) (post : PostModel MailTold) (token : TokenModel F) : Type 0 where

@@ -1,6 +1,6 @@
 -- What is left once the workers of all slots were closed.
 use Rattle.std.{proofs.{Common.{◌≡◌, ◌<◌, ℕ, zero, suc, List, [], ◌∷◌, length, ◌∙◌, refl, subst, arith}, lemmas.List.length-map}, specs.{Prelude.{None, Option, Some, IfSome, slice_get}, List.AllByRecursion}}
-use Rattle.pm_serve_crew.{specs.{pm_board.declared.views.RosterView.RosterView, pm_query.declared.book.BookEntry.BookEntry, pm_worker.declared.mail.MailTold.MailTold, Left.{AreLeft, IsBorneOut, IsWorked, Manner}}, proofs.BorneLaws.all_borne_on}
+use Rattle.pm_serve_crew.{specs.{pm_board.pm_board_words.declared.views.RosterView.RosterView, pm_query.declared.book.BookEntry.BookEntry, pm_worker.declared.mail.MailTold.MailTold, Left.{AreLeft, IsBorneOut, IsWorked, Manner}}, proofs.BorneLaws.all_borne_on}
 use Rattle.pm_store_shared.{specs.{declared.views.{Joined.Joined, Noted.Noted}, Log.{Continues, IsShuffle}, Places.EachOnce, Told.{AllContinue, SharedModel, owns, pasts}}, proofs.JoinedLaws.owned_at}
 use Rattle.pm_serve_pool.specs.Closing.{AreClosed}
 

@@ -3,7 +3,7 @@ use Rattle.std.{proofs.{Common.{◌≡◌, ◌≢◌, ◌⊎◌, inl, inr, ℕ, 
 use Rattle.atomic_table.specs.Seated.{TableId}
 use native.Mathlib.Decide.{ℕ_discrete}
 use Rattle.std.specs.List.{AllByRecursion}
-use Rattle.pm_serve_crew.specs.{pm_exit.declared.child.{Kind.{Kind, TheVariants.DeadEnd}, Status.Status}, pm_board.{declared.views.{Offer.Offer, PostView.PostView, RosterNotes.RosterNotes, RosterStep.TheVariants.{Assign, Release}, RosterView.RosterView, Sight.{Sight, TheVariants.{Unused, Opened, Assigned, Exited, Collected, Gathered}}, SlotView.SlotView}, Heard.HeardAsSent, Models.{HasAssigned, HasGathered, PostModel, SlotBecame}, Places.{AllReaped, IsReaped, slot_at}, Seats.is_gathered, Told.{past_child, released_slot, noted_release, noted_look, with_slot}}, pm_supervisor_journal.{declared.roll.Enrolled.Enrolled, Stands.highest_pid}, pm_board_acts.Standing.IsFinal, pm_store_shared.Told.{SharedModel, TokenModel, shared_with}, pm_worker.declared.mail.MailTold.MailTold, Left.Manner}
+use Rattle.pm_serve_crew.specs.{pm_exit.declared.child.{Kind.{Kind, TheVariants.DeadEnd}, Status.Status}, pm_board.{pm_board_words.declared.views.{Offer.Offer, PostView.PostView, RosterNotes.RosterNotes, RosterStep.TheVariants.{Assign, Release}, RosterView.RosterView, Sight.{Sight, TheVariants.{Unused, Opened, Assigned, Exited, Collected, Gathered}}, SlotView.SlotView}, Heard.HeardAsSent, Models.{HasAssigned, HasGathered, PostModel, SlotBecame}, Places.{AllReaped, IsReaped, slot_at}, Seats.is_gathered, Told.{past_child, released_slot, noted_release, noted_look, with_slot}}, pm_supervisor_journal.{declared.roll.Enrolled.Enrolled, Stands.highest_pid}, pm_board_acts.Standing.IsFinal, pm_store_shared.Told.{SharedModel, TokenModel, shared_with}, pm_worker.declared.mail.MailTold.MailTold, Left.Manner}
 use Rattle.pm_serve_crew.specs.pm_worker.declared.mail.MailTold.TheVariants as told
 use Rattle.pm_serve_pool.{specs.Closing.{HasClosedOne, HasHadLast, IsReleased, IsShut, closing_pid}, proofs.{Boards.keeps_board, Leaving.Leaves}}
 

@@ -1,7 +1,7 @@
 -- Works that were started, and those that are left.
 use Rattle.std.{specs.Prelude.Option, proofs.{Common.{◌≡◌, ℕ, ◌+◌, List, ◌++◌, length, map, sym, ap, ◌∙◌, subst, All, arith, length-append}, lemmas.List.{length-map, Elements.All-from_recursion}}}
 use Rattle.atomic_table.specs.Seated.{TableId}
-use Rattle.pm_serve_crew.specs.{pm_board.{declared.views.{SessionLimit.SessionLimit, RosterView.RosterView, Work.TheVariants.Idle}, Told.new_roster}, pm_store_shared.{declared.{views.Joined.Joined, token_store.TokenStore.TokenStore}, Told.{IsNewShared, SharedModel}}, pm_worker.declared.{child.Child.Child, mail.MailTold.MailTold}, Left.Manner}
+use Rattle.pm_serve_crew.specs.{pm_board.{pm_board_words.declared.views.{SessionLimit.SessionLimit, RosterView.RosterView, Work.TheVariants.Idle}, Told.new_roster}, pm_store_shared.{declared.{views.Joined.Joined, token_store.TokenStore.TokenStore}, Told.{IsNewShared, SharedModel}}, pm_worker.declared.{child.Child.Child, mail.MailTold.MailTold}, Left.Manner}
 use Rattle.pm_serve_pool.{specs.{declared.plan.Terms.Terms, Closing.AreClosed, Works.{AreUnused, EachFrom, IsIdleShared, IsUnusedWork, IsWorkOf}}, proofs.{Closed.unused_all, Lists.{all_of_each, back_of_all}, Returning.unused_works}}
 
 pub idle_new : {F : Type 0} (n : ℕ) (first : F) (s : SharedModel F) → IsNewShared n first s → IsIdleShared s

@@ -1,6 +1,6 @@
 -- What is known while the workers of a pool are closed, one after the other.
 use Rattle.std.specs.{Prelude.{◌≡◌, ◌≢◌, ℕ, ◌+◌, ◌<◌, ◌≤◌, true, List, [], ◌∷◌, ◌++◌, Some, length, slice_get}, List.AllByRecursion}
-use Rattle.pm_serve_crew.specs.{pm_board.{declared.views.{Offer.Offer, PastChild.PastChild, RosterStep.TheVariants.Release, RosterView.RosterView, Sight.TheVariants.Unused}, Heard.HeardAsSent, Places.{slot_at, slot_view}, Seats.is_gathered}, pm_supervisor_journal.Stands.highest_pid, pm_board_acts.{Seating.Move, Standing.IsBoardOf}, pm_store_shared.{declared.views.Joined.Joined, Told.{SharedModel, shared_with}}, pm_worker.{declared.mail.MailTold.MailTold, Runs.Run}, Left.{IsBorneOut, IsWorked, Manner}}
+use Rattle.pm_serve_crew.specs.{pm_board.{pm_board_words.declared.views.{Offer.Offer, PastChild.PastChild, RosterStep.TheVariants.Release, RosterView.RosterView, Sight.TheVariants.Unused}, Heard.HeardAsSent, Places.{slot_at, slot_view}, Seats.is_gathered}, pm_supervisor_journal.Stands.highest_pid, pm_board_acts.{Seating.Move, Standing.IsBoardOf}, pm_store_shared.{declared.views.Joined.Joined, Told.{SharedModel, shared_with}}, pm_worker.{declared.mail.MailTold.MailTold, Runs.Run}, Left.{IsBorneOut, IsWorked, Manner}}
 use Rattle.pm_serve_crew.specs.pm_worker.declared.mail.MailTold.TheVariants as told
 
 -- A board of so many slots, whose workers may be closed: nobody sits anywhere, no post was taken in, and no pid is above the highest

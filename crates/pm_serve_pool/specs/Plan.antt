@@ -1,7 +1,7 @@
 -- What a pool is made by.
 use Rattle.std.specs.Prelude.{ℕ, ◌+◌, ◌*◌, Option, None, Some}
 use Rattle.pm_supervisor.specs.declared.Limits.{Limits}
-use Rattle.pm_board.specs.declared.views.SessionLimit.{SessionLimit}
+use Rattle.pm_board.specs.pm_board_words.declared.views.SessionLimit.{SessionLimit}
 use Rattle.pm_store_shared.specs.{pm_disk.Files.Files}
 use Rattle.pm_store_shared.specs.pm_disk.declared.disk.Disk as Disk
 use Rattle.pm_serve_crew.specs.Left.{Manner}

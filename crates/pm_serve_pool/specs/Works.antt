@@ -12,7 +12,7 @@ EachFrom P first xs = (i : ℕ) (x : _) → slice_get xs i ≡ Some x → P (fir
 -- The work of the slot k, before its start: an idle post of this board and of that slot, a token of this store with that number
 -- that has noted nothing, and tools by these terms, with a clock that gives no other moments. The store got this disk.
 pub record IsNewWork {R C F : Type 0} (gives : C → ℕ → Type 0) (terms : Terms C) (board home : TableId) (first : Option F) (k : ℕ) (tools : Tools R C) (post : PostModel MailTold) (token : TokenModel F) : Type 0 where
-  pub post_is : post ≡ record { table = board; slot = k; knows = idle_post (sessions_of terms.plan.limits) }
+  pub post_is : post ≡ record { table = board; slot = k; knows = idle_post (sessions_of terms.plan.limits); home = post.home }
   pub home_is : token.table ≡ home
   pub disk : token.first ≡ first
   pub number : token.number ≡ k

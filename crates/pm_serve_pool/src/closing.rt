@@ -1,6 +1,6 @@
 //! The workers of a pool are told to end, one after the other, and joined.
 ghost use Rattle.std.specs.Prelude.{◌≡◌, ◌+◌, ◌<◌, ◌≤◌, [], length, map};
-ghost use Rattle.pm_board.specs.{declared.views.{Offer.Offer, Sight.TheVariants.Assigned}, Models.HasAssigned, Places.slot_at, pm_exit.declared.child.Kind.TheVariants.DeadEnd};
+ghost use Rattle.pm_board.specs.{pm_board_words.declared.views.{Offer.Offer, Sight.TheVariants.Assigned}, Models.HasAssigned, Places.slot_at, pm_exit.declared.child.Kind.TheVariants.DeadEnd};
 ghost use Rattle.pm_worker.specs.{pm_spawn.Works.work_of, declared.mail.MailTold.MailTold};
 ghost use Rattle.pm_worker.specs.declared.mail.MailTold.TheVariants as told;
 ghost use Rattle.pm_serve_pool.specs.{Closing.{AreClosed, HasClosedOne, IsReleased, IsShut, closing_pid}, Plan.{files_of, manner_of}, Works.{EachFrom, IsWorkOf}};

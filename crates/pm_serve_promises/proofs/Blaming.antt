@@ -4,7 +4,7 @@ use Rattle.pm_server.specs.{pm_disk.Cause.Rose, pm_supervisor.declared.{Ending.E
 use Rattle.pm_server.specs.pm_supervisor.declared.Ending.TheVariants as endings
 use Rattle.pm_server.specs.pm_state.declared.event.PmEvent.TheVariants as entry
 use Rattle.pm_serve_first_crash.{specs.{pm_supervisor_crashes.Crashes.{IsFirstCrash, IsHarmless, IsUnasked, stands_behind}, Causes.{HasCause, IsUnprovoked}}, proofs.BlameLaws.{has_cause, has_crashed, unfailed_unbroken}}
-use Rattle.pm_postmaster.specs.{pm_board.declared.views.RosterView.RosterView, pm_worker.declared.mail.MailTold.MailTold, Outside.ServeView, Served.{IsServed, manner_by, slots_by}, Serving.{EndsWith, IsEndBehind}}
+use Rattle.pm_postmaster.specs.{pm_board.pm_board_words.declared.views.RosterView.RosterView, pm_worker.declared.mail.MailTold.MailTold, Outside.ServeView, Served.{IsServed, manner_by, slots_by}, Serving.{EndsWith, IsEndBehind}}
 use Rattle.pm_serve_promises.specs.{Crashes.CrashesForCause, Runs.journal_in}
 
 -- the first crash of the first entries is that of all

@@ -1,7 +1,7 @@
 -- The run of a child that a slot has had.
 use Rattle.std.{proofs.Common.{◌≡◌, ℕ, zero, suc, ◌<◌, List, [], ◌∷◌, length, map, refl, subst, arith}, specs.{Prelude.slice_index_or, List.Contains}}
 use Rattle.pm_server.specs.declared.{conf.Conf.Conf, end.ServerEnd.ServerEnd}
-use Rattle.pm_postmaster.specs.{pm_board.{declared.views.{PastChild.PastChild, RosterView.RosterView, Sight.TheVariants.Unused, SlotView.SlotView}, Places.{slot_at, slot_view}}, pm_worker.{declared.mail.MailTold.MailTold, Runs.Run}, Outside.ServeView, Served.{IsServed, manner_by, slots_by}}
+use Rattle.pm_postmaster.specs.{pm_board.{pm_board_words.declared.views.{PastChild.PastChild, RosterView.RosterView, Sight.TheVariants.Unused, SlotView.SlotView}, Places.{slot_at, slot_view}}, pm_worker.{declared.mail.MailTold.MailTold, Runs.Run}, Outside.ServeView, Served.{IsServed, manner_by, slots_by}}
 use Rattle.pm_serve_first_crash.proofs.pm_serve_crew.EntriesLaws.{worked}
 
 -- a slot that has had a child is one of the board's

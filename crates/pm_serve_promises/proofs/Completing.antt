@@ -3,7 +3,7 @@ use Rattle.std.{proofs.{Common.{◌≡◌, ◌≢◌, ◌⊎◌, inl, inr, ℕ, 
 use Rattle.pm_server.specs.{pm_disk.Files.Files, pm_exit.declared.child.Status.{TheVariants.{Code, Signal}}, pm_query.declared.store.StoreNo.{TheVariants.{Full, NoMemory, Redo as RedoNo}}, pm_record.declared.fault.RedoFault.RedoFault, pm_segment.{pm_redo.Found.IsReason, Redos.SaysNothing}, pm_supervisor.{declared.Ending.Ending, Children.{is_checkpointer, is_startup_child}}, pm_state.{declared.event.PmEvent.PmEvent, Laws.RestartsSafely}, declared.{conf.Conf.Conf, end.{ServerEnd.{ServerEnd, TheVariants.{Clean, Abnormal, NoThread, NoMemory as ShortOfMemory}}, StartWhy.{StartWhy, TheVariants.{Redo, Killed}}, Why.TheVariants.{AfterCrash, StartupFailed, RestartOff, GenerationsSpent}}}}
 use Rattle.pm_server.specs.pm_record.declared.fault.RedoFault.TheVariants as redo
 use Rattle.pm_server.specs.pm_supervisor.declared.Ending.TheVariants as endings
-use Rattle.pm_postmaster.specs.{pm_board.{declared.views.{PastChild.PastChild, RosterView.RosterView}, Places.slot_at}, pm_board_acts.{Board.ended_of, Seating.{Ended}}, pm_worker.{declared.mail.MailTold.MailTold, Runs.Run}, Looking.{came_from, came_of, came_out, fault_in, last_with}, Outside.ServeView, Served.{IsServed, manner_by, slots_by}, Serving.{CrashedOtherwise, FailsFor, IsCausedBehind, IsEndBehind, IsReason as IsCameFor}}
+use Rattle.pm_postmaster.specs.{pm_board.{pm_board_words.declared.views.{PastChild.PastChild, RosterView.RosterView}, Places.slot_at}, pm_board_acts.{Board.ended_of, Seating.Ended}, pm_worker.{declared.mail.MailTold.MailTold, Runs.Run}, Looking.{came_from, came_of, came_out, fault_in, last_with}, Outside.ServeView, Served.{IsServed, manner_by, slots_by}, Serving.{CrashedOtherwise, FailsFor, IsCausedBehind, IsEndBehind, IsReason as IsCameFor}}
 use Rattle.pm_supervisor_crashes.{specs.{Crashes.{IsFirstCrash, stands_behind}, Ends.EndsSo, Laws.EndsForCause}, proofs.FirstLaws.no_crash_or_first}
 use Rattle.pm_serve_first_crash.{specs.Causes.{HasCause, IsUnprovoked, WasRefused}, proofs.{pm_serve_crew.TalksLaws.there_of_slots, ChildrenLaws.{IsNoCloser, one_child}, EndingLaws.{EndsShortBy, Failed, Unclosed, WasShort, ends_short, exit_of, past_there, startup_is}}}
 use Rattle.pm_serve_promises.{specs.{Completes.{EndsShort, HasCompleted, IsNoAbort, IsUntroubled}, Runs.{journal_in, runs_in}}, proofs.{Blaming.{its_cause, unprovoked}, Children.{RunOfChild, is_near, run_of_child}, Reasons.{CameFrom, in_front, one_came}}}

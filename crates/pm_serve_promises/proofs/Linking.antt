@@ -2,7 +2,7 @@
 use Rattle.std.{proofs.{Common.{◌≡◌, ℕ, ◌+◌, ◌<◌, Bool, true, List, [], ◌∷◌, Option, None, Some, refl, sym, ap, subst, ◌∙◌}, lemmas.List.Elements.{All-contains, All-from_recursion}}, specs.{Prelude.{IfSome, is_some}, List.Contains}}
 use Rattle.pm_server.specs.declared.{conf.Conf.Conf, end.ServerEnd.ServerEnd}
 use Rattle.pm_promises.specs.pm_session_answers.Replies.{Talk}
-use Rattle.pm_postmaster.specs.{pm_board.{declared.views.{PastChild.PastChild, RosterView.RosterView}, Places.slot_at}, pm_board_acts.pm_admit.declared.Cac.Cac, pm_outside.Visits.{Visit, Visits}, pm_worker.{declared.mail.{LinkTold.LinkTold, MailTold.MailTold}, Runs.{Does, IsRun, IsSessionRun, Run}}, Links.{AcceptedConnection, AreBackIn, BackIn, IsOffered, Serves, accepted_in}, Outside.ServeView, Served.{IsServed, manner_by, slots_by}}
+use Rattle.pm_postmaster.specs.{pm_board.{pm_board_words.declared.views.{PastChild.PastChild, RosterView.RosterView}, Places.slot_at}, pm_board_acts.pm_admit.declared.Cac.Cac, pm_outside.Visits.{Visit, Visits}, pm_worker.{declared.mail.{LinkTold.LinkTold, MailTold.MailTold}, Runs.{Does, IsRun, IsSessionRun, Run}}, Links.{AcceptedConnection, AreBackIn, BackIn, IsOffered, Serves, accepted_in}, Outside.ServeView, Served.{IsServed, manner_by, slots_by}}
 use Rattle.pm_postmaster.specs.pm_worker.declared.mail.MailTold.TheVariants as mail
 use Rattle.pm_serve_first_crash.{specs.pm_serve_crew.{Left.Manner, Talks.AreTalksOf}, proofs.pm_serve_crew.{EntriesLaws.worked, TalksLaws.{HasTalk, talk_of_run, there_of_slots}}}
 use Rattle.pm_serve_promises.{specs.{Links.{AreOverLinks, IsOverLink}, Runs.{journal_in, runs_in}}, proofs.Children.{RunOfChild, is_near, run_of_child}}

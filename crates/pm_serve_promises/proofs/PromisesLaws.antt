@@ -2,7 +2,7 @@
 use Rattle.std.{proofs.{Common.{◌≡◌, inr, ℕ, List, Some, None}, lemmas.List.Elements.All-from_recursion}, specs.List.AllByRecursion}
 use Rattle.pm_server.specs.{pm_disk.Files.Files, pm_query.{declared.book.BookEntry.BookEntry, Book.IsLegal, BookLaws.AckedNeverFalls}, pm_state.Laws.RestartsSafely, pm_supervisor.declared.Limits.Limits, Views.DiskView}
 use Rattle.pm_promises.{specs.{pm_session_answers.Own.entries_by, Promises.IsPromised, Runs.RunView, Stops.AcknowledgedStays}, proofs.StopsLaws.{at_each, whole_each, base_is}}
-use Rattle.pm_postmaster.specs.{pm_board.declared.views.RosterView.RosterView, pm_board_acts.Seating.{Move, journal_of}, pm_store_shared.declared.views.Noted.Noted, pm_worker.{declared.mail.MailTold.MailTold, Runs.IsRun}}
+use Rattle.pm_postmaster.specs.{pm_board.pm_board_words.declared.views.RosterView.RosterView, pm_board_acts.Seating.{Move, journal_of}, pm_store_shared.declared.views.Noted.Noted, pm_worker.{declared.mail.MailTold.MailTold, Runs.IsRun}}
 use Rattle.pm_serve_first_crash.{specs.pm_serve_crew.{Left.{AreLeft, Manner}, Pids.{AreEntriesOf, AreUsedOnce}, Talks.runs_of}, proofs.pm_serve_crew.{EntriesLaws.{entries_of_runs, worked}, TalksLaws.{FineTalks, IsFine, each_of_slots}}}
 use Rattle.pm_serve_clean_end.{specs.CleanEnd.{HasEndedClean, IsLeftBy}, proofs.CleanEndLaws.ends_clean}
 

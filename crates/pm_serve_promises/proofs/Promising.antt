@@ -4,7 +4,7 @@ use Rattle.pm_session_answers.specs.Laws.{OwnEntriesStand, RepliesAreRight}
 use Rattle.pm_serve_chain.proofs.ChainedLaws.{chained}
 use Rattle.pm_server.specs.{pm_supervisor_journal.Stands.any_moment, pm_query.{declared.book.BookEntry.BookEntry, Book.Base, BookLaws.AckedNeverFalls}, declared.{conf.Conf.Conf, end.ServerEnd.ServerEnd}, pm_state.Laws.RestartsSafely}
 use Rattle.pm_promises.specs.{Promises.IsPromised, Runs.IsTold}
-use Rattle.pm_postmaster.specs.{pm_board.declared.views.RosterView.RosterView, pm_worker.declared.mail.MailTold.MailTold, Outside.ServeView, Served.{IsServed, IsServeRun, manner_by, slots_by}, pm_store_remains.Remains.IsLeft}
+use Rattle.pm_postmaster.specs.{pm_board.pm_board_words.declared.views.RosterView.RosterView, pm_worker.declared.mail.MailTold.MailTold, Outside.ServeView, Served.{IsServed, IsServeRun, manner_by, slots_by}, pm_store_remains.Remains.IsLeft}
 use Rattle.pm_supervisor_crashes.specs.Laws.{EndsForCause}
 use Rattle.pm_serve_first_crash.proofs.pm_serve_crew.TalksLaws.{FineTalks, fine_talks}
 use Rattle.pm_serve_clean_end.specs.CleanEnd.{IsLeftBy}

@@ -2,7 +2,7 @@
 use Rattle.std.{proofs.{Common.{◌≡◌, ◌≢◌, ◌⊎◌, inl, inr, ℕ, zero, suc, ◌<◌, Bool, true, false, List, [], ◌∷◌, ◌++◌, Option, None, Some, length, refl, sym, ap, subst, ◌∙◌, arith}, lemmas.List.Elements.{All-contains, All-from_recursion}}, specs.{Prelude.{if◌then◌else◌}, List.Contains}}
 use Rattle.pm_server.specs.{pm_query.declared.store.StoreNo.{StoreNo, TheVariants.Redo as RedoNo}, pm_record.declared.fault.RedoFault.{RedoFault, TheVariants.NoMemory}, pm_exit.declared.child.Kind.Kind, pm_supervisor.Children.is_startup_child, declared.{conf.Conf.Conf, end.{ServerEnd.{ServerEnd, TheVariants.{Clean, Abnormal, NoThread, NoMemory as ShortOfMemory}}, StartWhy.TheVariants.{Redo, Killed}, Why.TheVariants.{AfterCrash, StartupFailed, RestartOff, GenerationsSpent}}}}
 use Rattle.pm_serve_first_crash.{specs.pm_serve_crew.Left.IsBorneOut, proofs.EndingLaws.startup_is}
-use Rattle.pm_postmaster.specs.{pm_board.{declared.views.{PastChild.PastChild, RosterView.RosterView}, Places.slot_at}, pm_store_shared.Learned.IsUnread, pm_worker.{declared.mail.MailTold.MailTold}, Looking.{came_from, came_of, came_out, fault_in, last_with}, Outside.ServeView, Served.{IsServed, manner_by}, Serving.{FailsFor, IsCausedBehind}}
+use Rattle.pm_postmaster.specs.{pm_board.{pm_board_words.declared.views.{PastChild.PastChild, RosterView.RosterView}, Places.slot_at}, pm_store_shared.Learned.IsUnread, pm_worker.declared.mail.MailTold.MailTold, Looking.{came_from, came_of, came_out, fault_in, last_with}, Outside.ServeView, Served.{IsServed, manner_by}, Serving.{FailsFor, IsCausedBehind}}
 use Rattle.pm_postmaster.specs.pm_worker.declared.mail.MailTold.TheVariants as mail
 use Rattle.pm_serve_promises.{specs.Starts.FailsForReason, proofs.Children.{RunOfChild, is_near, run_of_child}}
 

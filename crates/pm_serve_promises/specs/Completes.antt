@@ -3,7 +3,7 @@ use Rattle.std.specs.{Prelude.{◌≡◌, ◌≢◌, ◌⊎◌, ℕ, [], ◌∷�
 use Rattle.pm_server.specs.{pm_disk.{Cause.Rose, Files.Files}, pm_exit.declared.child.Status.TheVariants.Signal, pm_query.declared.store.StoreNo.TheVariants.{Full, NoMemory, Redo}, pm_state.declared.event.PmEvent.PmEvent, declared.{conf.Conf.Conf, end.ServerEnd.{ServerEnd, TheVariants.{Clean, NoMemory as ShortOfMemory}}}}
 use Rattle.pm_server.specs.pm_record.declared.fault.RedoFault.TheVariants as redo
 use Rattle.pm_server.specs.pm_state.declared.event.PmEvent.TheVariants as entry
-use Rattle.pm_postmaster.specs.{pm_board.declared.views.RosterView.RosterView, pm_board_acts.{Board.ended_of, Seating.ends}, pm_store_remains.Remains.AreReadable, pm_worker.{declared.mail.MailTold.MailTold, Runs.Run}, Outside.ServeView, Served.IsServed}
+use Rattle.pm_postmaster.specs.{pm_board.pm_board_words.declared.views.RosterView.RosterView, pm_board_acts.{Board.ended_of, Seating.ends}, pm_store_remains.Remains.AreReadable, pm_worker.{declared.mail.MailTold.MailTold, Runs.Run}, Outside.ServeView, Served.IsServed}
 use Rattle.pm_serve_first_crash.specs.{pm_supervisor_crashes.Crashes.{IsFirstCrash, IsUnasked}, Causes.WasRefused}
 use Rattle.pm_serve_promises.specs.Runs.{journal_in, runs_in}
 

@@ -1,7 +1,7 @@
 -- What the first crash of a run of a server of many connections is due to.
 use Rattle.std.specs.Prelude.{◌≡◌, ◌⊎◌}
 use Rattle.pm_server.specs.{pm_state.declared.event.PmEvent.PmEvent, declared.{conf.Conf.Conf, end.{ServerEnd.{ServerEnd, TheVariants.Abnormal}, Why.TheVariants.{AfterCrash, RestartOff}}}}
-use Rattle.pm_postmaster.specs.{pm_board.declared.views.RosterView.RosterView, pm_worker.declared.mail.MailTold.MailTold, Outside.ServeView, Served.{IsServed, manner_by, slots_by}}
+use Rattle.pm_postmaster.specs.{pm_board.pm_board_words.declared.views.RosterView.RosterView, pm_worker.declared.mail.MailTold.MailTold, Outside.ServeView, Served.{IsServed, manner_by, slots_by}}
 use Rattle.pm_serve_first_crash.specs.{pm_supervisor_crashes.Crashes.{IsFirstCrash, stands_behind}, Causes.HasCause}
 use Rattle.pm_serve_promises.specs.Runs.{journal_in}
 

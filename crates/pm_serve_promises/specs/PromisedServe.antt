@@ -2,7 +2,7 @@
 use Rattle.std.specs.{Prelude.{List, Option, None, Some}, List.AllByRecursion}
 use Rattle.pm_server.specs.{pm_disk.Cause.Rose, pm_query.{declared.book.BookEntry.BookEntry, Book.Base}, declared.{conf.Conf.Conf, end.ServerEnd.ServerEnd}, pm_state.Restarts.RestartsInOrder}
 use Rattle.pm_promises.specs.{pm_session_answers.Replies.Talk, Promises.IsPromised, Runs.IsTold}
-use Rattle.pm_postmaster.specs.{pm_board.declared.views.RosterView.RosterView, pm_board_acts.Chained.IsChainedLoosely, pm_worker.declared.mail.MailTold.MailTold, Links.accepted_in, Outside.ServeView, Served.{IsServed, IsUnmade}}
+use Rattle.pm_postmaster.specs.{pm_board.pm_board_words.declared.views.RosterView.RosterView, pm_board_acts.Chained.IsChainedLoosely, pm_worker.declared.mail.MailTold.MailTold, Links.accepted_in, Outside.ServeView, Served.{IsServed, IsUnmade}}
 use Rattle.pm_serve_first_crash.specs.{pm_supervisor_crashes.Crashes.IsUnasked, pm_serve_crew.Talks.AreTalksOf}
 use Rattle.pm_serve_promises.specs.{Completes.{HasCompleted, IsUntroubled}, Crashes.CrashesForCause, Links.AreOverLinks, Runs.{journal_in, run_view, runs_in}, Starts.FailsForReason}
 

@@ -2,7 +2,7 @@
 use Rattle.std.specs.Prelude.{List}
 use Rattle.pm_server.specs.{pm_query.declared.book.BookEntry.BookEntry, declared.{conf.Conf.Conf, end.ServerEnd.ServerEnd}, pm_state.declared.event.PmEvent.PmEvent}
 use Rattle.pm_promises.specs.{pm_session_answers.Replies.Talk, Runs.RunView}
-use Rattle.pm_postmaster.specs.{pm_board.declared.views.RosterView.RosterView, pm_board_acts.Seating.journal_of, pm_worker.{declared.mail.MailTold.MailTold, Runs.Run}, Outside.ServeView, Served.{IsServed, slots_by}}
+use Rattle.pm_postmaster.specs.{pm_board.pm_board_words.declared.views.RosterView.RosterView, pm_board_acts.Seating.journal_of, pm_worker.{declared.mail.MailTold.MailTold, Runs.Run}, Outside.ServeView, Served.{IsServed, slots_by}}
 use Rattle.pm_serve_first_crash.specs.pm_serve_crew.Talks.{runs_of}
 use Rattle.pm_serve_clean_end.specs.CleanEnd.{HasEndedClean}
 

@@ -1,6 +1,6 @@
 -- A run of `serve`.
 use Rattle.std.specs.Prelude.{◌≡◌, ℕ, List, Option}
-use Rattle.pm_postmaster.specs.{Outside.ServeView, pm_board.declared.views.RosterView.RosterView, pm_worker.declared.mail.MailTold.MailTold, pm_server.declared.{conf.Conf.Conf, end.ServerEnd.ServerEnd}}
+use Rattle.pm_postmaster.specs.{Outside.ServeView, pm_board.pm_board_words.declared.views.RosterView.RosterView, pm_worker.declared.mail.MailTold.MailTold, pm_server.declared.{conf.Conf.Conf, end.ServerEnd.ServerEnd}}
 use Rattle.pm_serve_promises.specs.PromisedServe.{IsPromisedServe}
 use Rattle.pm_top_words.specs.{declared.words.Command.{Command, TheVariants.{Initdb, Once, Serve, Controldata, Workload}}, Words.{IsLine, IsLineWith, IsOnlyLine}}
 use Rattle.pm_top.specs.{Ends.status_of, declared.status.Top.Top}

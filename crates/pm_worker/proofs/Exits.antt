@@ -2,7 +2,7 @@
 use Rattle.std.{proofs.{Common.{ℕ, ◌≡◌, ◌∙◌, ◌++◌, Bool, true, false, List, [], ◌∷◌, Option, Some, None, ap, sym, refl, subst}, lemmas.{List.append-nil, Bool.false≢true}}, specs.Prelude.{◌↔◌, IsTrue, is_some, unwrap_or}}
 use Rattle.pm_admit.specs.declared.Cac.{Cac}
 use Rattle.pm_worker.specs.{declared.mail.{LinkTold.LinkTold, MailTold.MailTold}, Mails.IsFor, Runs.{Run, HasBegun, Does, IsRun, HasRun, close_run}}
-use Rattle.pm_board.specs.{pm_exit.{declared.child.Status.{Status, TheVariants.Code}, Ends.is_exit_0}, Slots.child_slots, declared.views.{Offer.Offer, Work.{Work, TheVariants.{Idle, Sees, Inactive, Active, Refused, Attached}}}, Told.{child_in, past_child, MayEnd}, Models.{PostModel, MayExit, HasExited}}
+use Rattle.pm_board.specs.{pm_exit.{declared.child.Status.{Status, TheVariants.Code}, Ends.is_exit_0}, Slots.child_slots, pm_board_words.declared.views.{Offer.Offer, Work.{Work, TheVariants.{Idle, Sees, Inactive, Active, Refused, Attached}}}, Told.{child_in, past_child, MayEnd}, Models.{PostModel, MayExit, HasExited}}
 use Rattle.pm_worker.specs.declared.mail.MailTold.TheVariants as mail
 use Rattle.pm_query.specs.declared.book.BookEntry.{BookEntry}
 use Rattle.pm_board_life.specs.Lives.{Beginning, GoesOn, LifeModel, child_as, child_by, attached_of, IsLiving}

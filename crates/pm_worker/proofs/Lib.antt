@@ -3,3 +3,4 @@ mod Exits
 mod Known
 mod Loops
 mod Sessions
+mod Statuses

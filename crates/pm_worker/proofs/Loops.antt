@@ -1,7 +1,7 @@
 -- What a worker has done, one run longer.
 use Rattle.std.{proofs.{Common.{ℕ, ◌≡◌, ◌≤◌, ◌∙◌, ◌++◌, List, [], ◌∷◌, Option, map, ap, sym, refl, subst, arith}, lemmas.{List.{append-nil, append_assoc}, Grind.flat_map-append}}, specs.List.{flat_map, AllByRecursion}}
 use Rattle.pm_query.specs.{pm_facts.Lists.each_more, declared.book.BookEntry.BookEntry, Calls.{DiskFact, unread_for}}
-use Rattle.pm_board.specs.{declared.views.Work.TheVariants.Idle, Models.PostModel, Slots.child_slots}
+use Rattle.pm_board.specs.{pm_board_words.declared.views.Work.TheVariants.Idle, Models.PostModel, Slots.child_slots}
 use Rattle.pm_worker.specs.{declared.mail.MailTold.MailTold, Runs.{Run, IsRun, IsKnownBy, noted_by, HasRunOne, HasWorked}}
 
 maps_more : {A B : Type 0} (f : A → B) (xs : List A) (x : A) → map f (xs ++ x ∷ []) ≡ map f xs ++ f x ∷ []

@@ -1,7 +1,7 @@
 -- The run of a session, from what its serving tells.
 use Rattle.std.{proofs.Common.{ℕ, ◌≡◌, ◌⊎◌, ◌<◌, ◌≤◌, true, false, List, Option, Some, None, sym, refl, subst, arith}, specs.{Prelude.is_some, Option.option_map}}
 use Rattle.pm_session.specs.{pm_outside.{pm_disk.Cause.Rose, Traffic.Traffic}, pm_admit.declared.Cac.Cac, pm_child_life.Life.nothing_told, pm_query.{declared.book.BookEntry.BookEntry, Calls.newcomer}, pm_session_exchange.{declared.ending.{Cause.{Cause, TheVariants.{Terminated, Cancelling, LinkEnded, LinkFailed, TimedOut, PacketRefused, MessageRefused, DecisionRefused, GateRefused, ShortOfMemory, Panicked, ToldToTerminate, ToldToQuit, Killed, Overtaken}}, Stage.{Stage, TheVariants.{Outside, Entering, Greeted}}}, Answers.IsOvertakenBy, Exchange.CutsOff, Sent.Turn, Ends.{status_by, LetsGo}}, Session.{Ending, status_of, between, ByStage, HasPassed, IsSession, IsCaused, HasAskedFor, HeedsTold, IsAttachedBehind, HasCancelled, HasCome}}
-use Rattle.pm_board.specs.{pm_exit.{declared.child.Status.Status, Ends.is_exit_0}, pm_keys.CancelKey.cancel_key, declared.views.{Cancel.Cancel, Heard.Heard, LatchLook.LatchLook, Offer.Offer}, Told.past_child}
+use Rattle.pm_board.specs.{pm_exit.{declared.child.Status.Status, Ends.is_exit_0}, pm_keys.CancelKey.cancel_key, pm_board_words.declared.views.{Cancel.Cancel, Heard.Heard, LatchLook.LatchLook, Offer.Offer}, Told.past_child}
 use Rattle.pm_board_life.specs.Lives.{told_by, child_as}
 use Rattle.pm_worker.specs.{declared.mail.{LinkTold.LinkTold, MailTold.MailTold}, Mails.{traffic_in, traffic_of, passed_of}, Runs.IsSessionRun}
 use Rattle.pm_worker.specs.declared.mail.MailTold.TheVariants as mail

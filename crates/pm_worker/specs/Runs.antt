@@ -1,7 +1,7 @@
 -- The runs of the children of one worker.
 use Rattle.std.specs.{Prelude.{◌≡◌, ◌≢◌, ℕ, ◌+◌, ◌<◌, ◌≤◌, ◌^◌, ◌-◌, min, length, false, List, [], ◌∷◌, ◌++◌, map, Option, Some, None, is_some}, List.{flat_map, AllByRecursion}}
 use Rattle.pm_session.specs.{pm_outside.pm_disk.Cause.Rose, pm_admit.declared.Cac.Cac, pm_child_life.Life.Told, pm_session_exchange.{Answers.IsOvertakenBy, Sent.Turn}, Session.{Ending, status_of, between, IsSession, IsCaused, HeedsTold, IsAttachedBehind, HasCancelled, HasCome}}
-use Rattle.pm_board.specs.{pm_exit.declared.child.{Kind.Kind, Status.TheVariants.Code}, pm_keys.CancelKey.cancel_key, declared.views.{Cancel.Cancel, Heard.Heard, LatchLook.LatchLook, Offer.Offer, PastChild.PastChild, Work.TheVariants.{Idle, Inactive}}, Models.PostModel, Rule.no_signals, Slots.child_slots, Told.child_in}
+use Rattle.pm_board.specs.{pm_exit.declared.child.{Kind.Kind, Status.TheVariants.Code}, pm_keys.CancelKey.cancel_key, pm_board_words.declared.views.{Cancel.Cancel, Heard.Heard, LatchLook.LatchLook, Offer.Offer, PastChild.PastChild, Work.TheVariants.{Idle, Inactive}}, Models.PostModel, Rule.no_signals, Slots.child_slots, Told.child_in}
 use Rattle.pm_board.specs.pm_exit.declared.child.Kind.TheVariants as kinds
 use Rattle.pm_aux.specs.{pm_query.{pm_record.declared.fault.RedoFault.RedoFault, declared.{book.BookEntry.BookEntry, store.StoreNo.{StoreNo, TheVariants.Redo}}, Calls.{newcomer, DiskFact, unread_for}}, Ends.IsMetBehind, Runs.IsRunOf}
 use Rattle.pm_board_life.specs.Lives.{told_by, child_as, MetRightly, Makes}

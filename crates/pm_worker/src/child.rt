@@ -1,6 +1,6 @@
 //! The work of one worker.
 ghost use Rattle.std.specs.Prelude.{◌≡◌};
-ghost use Rattle.pm_board.specs.declared.views.Work.TheVariants.{Idle};
+ghost use Rattle.pm_board.specs.pm_board_words.declared.views.Work.TheVariants.{Idle};
 ghost use Rattle.pm_worker.specs.Runs.{HasClosed};
 
 use crate::mail::Mail;

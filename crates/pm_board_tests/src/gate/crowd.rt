@@ -1,6 +1,6 @@
 //! Many workers at one gate, through a thousand generations.
 ghost use Rattle.std.specs.Prelude.{◌≡◌, ◌<◌, ◌+◌, ◌*◌, ◌≤◌, true, false, None};
-ghost use Rattle.pm_board.specs.{pm_supervisor.declared.Reason.TheVariants.Crash, declared.views.RosterStep.TheVariants.{Quit, Ready}, Gate.gate_of, Models.{MayOpen, HasStepped}, Places.{SlotServes, IsAssigned, is_auxiliary, is_connection}};
+ghost use Rattle.pm_board.specs.{pm_supervisor.declared.Reason.TheVariants.Crash, pm_board_words.declared.views.RosterStep.TheVariants.{Quit, Ready}, Gate.gate_of, Models.{MayOpen, HasStepped}, Places.{SlotServes, IsAssigned, is_auxiliary, is_connection}};
 ghost use Rattle.pm_board_tests.specs.GateChildren.{HasChildren, HasReaped, IsBetween, IsEmpty, shut_gate};
 
 use crate::gate::progress::{Progress, SESSIONS, WORKERS};

@@ -1,6 +1,6 @@
 //! A session that dies attached keeps its place until the next generation, and a reset asks for no count.
 ghost use Rattle.std.specs.Prelude.{◌≡◌, IfSome, IsTrue};
-ghost use Rattle.pm_board.specs.{pm_exit.declared.child.Kind.TheVariants.{Worker, Backend}, Gate.gate_of, declared.views.Work.TheVariants.Idle};
+ghost use Rattle.pm_board.specs.{pm_exit.declared.child.Kind.TheVariants.{Worker, Backend}, Gate.gate_of, pm_board_words.declared.views.Work.TheVariants.Idle};
 ghost use Rattle.pm_board_tests.specs.GateChildren.{HasChildren, IsEmpty, IsUntouched, RunsKind, shut_gate, open_gate};
 
 use crate::gate::scene::{

@@ -1,6 +1,6 @@
 //! The board of the tests, and a child's way over it.
 ghost use Rattle.std.specs.Prelude.{◌≡◌, ◌≤◌, IfOk, IfSome, IsTrue};
-ghost use Rattle.pm_board.specs.{Gate.gate_of, Places.{MayAssign, IsAssigned}, Models.MayAttach, declared.views.Work.TheVariants.Idle, Posts.AllIdle};
+ghost use Rattle.pm_board.specs.{Gate.gate_of, Places.{MayAssign, IsAssigned}, Models.MayAttach, pm_board_words.declared.views.Work.TheVariants.Idle, Posts.AllIdle};
 ghost use Rattle.pm_board_tests.specs.GateChildren.{HasBegun, HasReaped, IsUntouched, RunsKind, shut_gate};
 
 use pm_board::{Board, Letter, Look, Post, Posts, Released, Roster, SessionLimit, Started};

@@ -1,6 +1,6 @@
 //! A worker, whose children go to the gate until their end.
 ghost use Rattle.std.specs.Prelude.{◌≡◌, ◌+◌, ◌<◌, ◌≤◌, IfSome, IfNone, IsTrue};
-ghost use Rattle.pm_board.specs.{declared.views.Work.TheVariants.Idle, Posts.AllIdle};
+ghost use Rattle.pm_board.specs.{pm_board_words.declared.views.Work.TheVariants.Idle, Posts.AllIdle};
 ghost use Rattle.pm_board_tests.specs.GateChildren.{HasChildren, IsAttachedSession, RunsSession, ServesSession};
 
 use crate::gate::progress::{Progress, SESSIONS, WORKERS};

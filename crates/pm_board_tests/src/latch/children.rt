@@ -1,6 +1,6 @@
 //! One child from its assign to its release.
 ghost use Rattle.std.specs.Prelude.{◌≡◌, ◌<◌, true, false, IfOk};
-ghost use Rattle.pm_board.specs.declared.views.Work.TheVariants.{Idle};
+ghost use Rattle.pm_board.specs.pm_board_words.declared.views.Work.TheVariants.{Idle};
 ghost use Rattle.pm_board_tests.specs.LatchChildren.{CanBegin, HasBegun, IsBusy, HasStayed, HasFinished, IsRunning, IsNew};
 
 use crate::notes::Note;

@@ -1,6 +1,6 @@
 //! What a child is given of the signals that were sent to it.
 ghost use Rattle.std.specs.Prelude.{◌≡◌, true};
-ghost use Rattle.pm_board.specs.declared.views.Work.TheVariants.{Idle};
+ghost use Rattle.pm_board.specs.pm_board_words.declared.views.Work.TheVariants.{Idle};
 ghost use Rattle.pm_board_tests.specs.LatchChildren.{IsBusy, IsNew, IsRunning};
 
 use crate::latch::children::{assign, make, start};

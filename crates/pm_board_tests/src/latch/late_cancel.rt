@@ -1,6 +1,6 @@
 //! A cancel that comes late: the slot of the pid has its next child by then.
 ghost use Rattle.std.specs.Prelude.{◌≡◌};
-ghost use Rattle.pm_board.specs.declared.views.Work.TheVariants.{Idle};
+ghost use Rattle.pm_board.specs.pm_board_words.declared.views.Work.TheVariants.{Idle};
 ghost use Rattle.pm_board_tests.specs.LatchChildren.{IsNew};
 
 use crate::latch::children::{assign, exit, make, reap, start};

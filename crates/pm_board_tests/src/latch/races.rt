@@ -1,7 +1,7 @@
 //! Ten thousand children on two slots. Each is sent one kind of signal while it comes and goes, and cancels the children of
 //! the pids beside its own, where those are to be cancelled at all.
 ghost use Rattle.std.specs.Prelude.{◌≡◌, ◌<◌, ◌+◌};
-ghost use Rattle.pm_board.specs.declared.views.Work.TheVariants.{Idle};
+ghost use Rattle.pm_board.specs.pm_board_words.declared.views.Work.TheVariants.{Idle};
 ghost use Rattle.pm_board_tests.specs.LatchChildren.{IsNew, IsRunning, TakesTurns};
 
 use crate::latch::children::{assign, exit, make, reap};

@@ -1,7 +1,7 @@
 //! The supervisor of the tests: it assigns children to the slots of a board, one after the other, and collects those that have
 //! exited.
 ghost use Rattle.std.specs.Prelude.{◌≡◌, ◌+◌, ◌<◌, ◌≤◌, false, true, length, None, IfSome};
-ghost use Rattle.pm_board.specs.{declared.views.Sight.TheVariants.Unused, Places.{slot_at, SlotServes, is_connection}, Children.child_seen};
+ghost use Rattle.pm_board.specs.{pm_board_words.declared.views.Sight.TheVariants.Unused, Places.{slot_at, SlotServes, is_connection}, Children.child_seen};
 ghost use Rattle.pm_child_tests.specs.Crew.{IsManned, IsFresh, IsLookedOver, HasLookedAt};
 
 use crate::worker::tally::Tally;

@@ -1,6 +1,6 @@
 //! A pool of 47 threads: each kind of mail, 200 sessions of which some are told to end, and the end of every worker.
 ghost use Rattle.std.specs.Prelude.{◌≡◌, ◌≤◌, false, All, IfOk, OnOk};
-ghost use Rattle.pm_board.specs.{declared.views.Work.TheVariants.Idle, Posts.AllIdle};
+ghost use Rattle.pm_board.specs.{pm_board_words.declared.views.Work.TheVariants.Idle, Posts.AllIdle};
 ghost use Rattle.pm_child_tests.specs.Crew.{IsManned, IsFresh};
 
 use crate::worker::clients::{Manner, link_of};

@@ -1,5 +1,5 @@
 use Rattle.std.proofs.Common.{sym, ap, ◌∙◌}
-use Rattle.pm_board.specs.{declared.views.Work.TheVariants.Inactive, Gate.generation_in, Told.with_work}
+use Rattle.pm_board.specs.{pm_board_words.{declared.views.Work.TheVariants.Inactive, GateWords.generation_in}, Told.with_work}
 use Rattle.pm_gate.proofs.Attaches as attaches
 use Rattle.pm_gate.proofs.attach.Goals as goal
 

@@ -1,12 +1,12 @@
 use Rattle.std.proofs.Common.{ap, ◌∙◌}
-use Rattle.pm_board.specs.{declared.views.Work.TheVariants.Inactive, Told.with_work}
+use Rattle.pm_board.specs.{pm_board_words.declared.views.Work.TheVariants.Inactive, Told.with_work}
 use Rattle.pm_gate.proofs.detach.Goals as goal
 
-pub let_go-requires : goal.let_go-requires
-let_go-requires g c = (c.requires.0, c.args.attached.generation, c.requires.1)
+pub let_go-requires-clause-attached : goal.let_go-requires-clause-attached
+let_go-requires-clause-attached g c = (c.requires.attached.0, c.args.attached.generation, c.requires.attached.1)
 
 pub unmark-requires : goal.unmark-requires
-unmark-requires g c = (c.requires.0, ap (λ w. w.work) (c.let_go.ensures.knows c.requires.0 c.args.attached.generation c.requires.1))
+unmark-requires g c = (c.requires.attached.0, ap (λ w. w.work) (c.let_go.ensures.knows c.requires.attached.0 c.args.attached.generation c.requires.attached.1))
 
 pub returns-clause-knows : goal.returns-clause-knows
 returns-clause-knows g c o does =

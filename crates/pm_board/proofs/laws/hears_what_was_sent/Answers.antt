@@ -1,6 +1,7 @@
 use Rattle.std.proofs.Common.{◌≡◌, ◌+◌, ◌<◌, ◌≤◌, [], ◌∷◌, ◌++◌, length, arith, sym, ap, ◌∙◌, subst}
 use Rattle.pm_facts.specs.Numbers.{sum_below}
-use Rattle.pm_board.{specs.{Slots.child_slots, declared.views.{PostView.PostView, RosterView.RosterView}, Places.slot_at, Heard.{WasMade, HeardAsSent}, Latches.{HeardRightly, EachHeard, HeardBy, doings_of, Reaches, beside, waiting, times_made, times_made_on, made_on, WereMade, latch_at, cancel_at}, Rule.{running, ended, Does}}, proofs.{Latches.{latch_here, a_term}, Latching.{does_child, left_behind}, Hearing.{each_known, heard_known, same_limit, made_known, heard_as_sent}}}
+use Rattle.pm_board_words.specs.declared.views.{PostView.PostView, RosterView.RosterView}
+use Rattle.pm_board.{specs.{Slots.child_slots, Places.slot_at, Heard.{WasMade, HeardAsSent}, Latches.{HeardRightly, EachHeard, HeardBy, doings_of, Reaches, beside, waiting, times_made, times_made_on, made_on, WereMade, latch_at, cancel_at}, Rule.{running, ended, Does}}, proofs.{Latches.{latch_here, a_term}, Latching.{does_child, left_behind}, Hearing.{each_known, heard_known, same_limit, made_known, heard_as_sent}}}
 use Rattle.pm_board.proofs.laws.hears_what_was_sent.Goals as goal
 
 pub returns : goal.returns

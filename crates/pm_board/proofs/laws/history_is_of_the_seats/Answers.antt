@@ -1,5 +1,6 @@
 use Rattle.std.proofs.Common.{◌<◌, ◌≤◌, length, arith, sym, ap, ◌∙◌, map}
-use Rattle.pm_board.specs.{Slots.child_slots, declared.views.{PostView.PostView, RosterView.RosterView}, History.{events_of, worker_step}}
+use Rattle.pm_board_words.specs.declared.views.{PostView.PostView, RosterView.RosterView}
+use Rattle.pm_board.specs.{Slots.child_slots, History.{events_of, worker_step}}
 use Rattle.pm_board.proofs.laws.history_is_of_the_seats.Goals as goal
 
 pub returns : goal.returns

@@ -1,5 +1,6 @@
 use Rattle.std.proofs.Common.{sym, ap, ◌∙◌}
-use Rattle.pm_board.{specs.declared.views.PostView.PostView, proofs.{Moves.rebased, Gating.all_idle}}
+use Rattle.pm_board_words.specs.declared.views.PostView.{PostView}
+use Rattle.pm_board.proofs.{Moves.rebased, Gating.all_idle}
 use Rattle.pm_board.proofs.laws.reset_finds_nobody.Goals as goal
 
 pub returns : goal.returns

@@ -1,6 +1,7 @@
 use Rattle.std.proofs.Common.{ℕ, List}
 use Rattle.pm_supervisor.specs.{Supervisor.Shared, Shared.IsKept, Laws.KeepsWhatIsShared}
-use Rattle.pm_board.specs.{declared.views.SessionLimit.SessionLimit, History.{Entry, Run, begins, goes_on}}
+use Rattle.pm_board_words.specs.declared.views.SessionLimit.{SessionLimit}
+use Rattle.pm_board.specs.History.{Entry, Run, begins, goes_on}
 use Rattle.pm_board.proofs.laws.shows_a_sound_state.Goals as goal
 
 runs_soundly : KeepsWhatIsShared → (limit : SessionLimit) (log : List Entry) (s : Shared) → Run limit log s → IsKept limit.most s

@@ -1,6 +1,6 @@
 use Rattle.std.proofs.Common.{ap, ◌∙◌}
-use Rattle.pm_board.specs.declared.views.RosterView.{RosterView}
-use Rattle.pm_board.specs.declared.views.Signal.TheVariants as signal
+use Rattle.pm_board.specs.pm_board_words.declared.views.RosterView.{RosterView}
+use Rattle.pm_board.specs.pm_board_words.declared.views.Signal.TheVariants as signal
 use Rattle.pm_board_acts.{specs.{declared.audience.Audience.TheVariants.Everyone, Board.seats_of, Seating.sends}, proofs.{Ending.killed_keeps, Sends.same-slots}}
 use Rattle.pm_board_acts.proofs.finish.kill_rest.Goals as goal
 

@@ -1,6 +1,6 @@
 use Rattle.std.proofs.Common.{refl, ap, ◌∙◌}
-use Rattle.pm_board_acts.specs.{pm_board.declared.views.RosterView.RosterView, declared.audience.Audience.TheVariants.Everyone, Board.seats_of, Seating.sends, pm_worker.declared.mail.MailTold.MailTold}
-use Rattle.pm_board_acts.specs.pm_board.declared.views.Signal.TheVariants as signal
+use Rattle.pm_board_acts.specs.{pm_board.pm_board_words.declared.views.RosterView.RosterView, declared.audience.Audience.TheVariants.Everyone, Board.seats_of, Seating.sends, pm_worker.declared.mail.MailTold.MailTold}
+use Rattle.pm_board_acts.specs.pm_board.pm_board_words.declared.views.Signal.TheVariants as signal
 use Rattle.pm_postmaster.proofs.{Cleared.{clears_both, clears_same}, Linking.same_limit}
 use Rattle.pm_postmaster.proofs.clearing.clear.Goals as goal
 

@@ -1,6 +1,6 @@
 use Rattle.std.{proofs.Common.{◌≡◌, ◌⊎◌, inl, inr, ℕ, List, [], refl, sym, ap, subst, ◌∙◌}, specs.Prelude.{Some, Option, IfSome, is_some}}
 use Rattle.atomic_table.specs.Seated.{TableId}
-use Rattle.pm_worker.specs.{pm_board.declared.views.RosterView.RosterView, declared.mail.MailTold.MailTold}
+use Rattle.pm_worker.specs.{pm_board.pm_board_words.declared.views.RosterView.RosterView, declared.mail.MailTold.MailTold}
 use Rattle.pm_serve_pool.specs.{pm_serve_crew.Left.AreLeft, declared.{plan.{Plan.Plan, Terms.Terms}, pool.{NoPool.NoPool, Pool.Pool}}, Plan.{files_of, manner_of, slots_of}, Pools.IsPool, pm_store_shared.declared.views.Noted.Noted}
 use Rattle.pm_server.specs.{pm_disk.{Cause.Rose, Files.Files}, pm_supervisor_journal.Supervision.{at_work, told}, pm_query.declared.book.BookEntry.BookEntry, declared.end.ServerEnd.{ServerEnd, TheVariants.{NoThread, NoMemory}}}
 use Rattle.pm_server_lines.proofs.LogLaws.{said_first}

@@ -1,5 +1,5 @@
 use Rattle.std.proofs.Common.{◌∙◌, ap, sym, subst}
-use Rattle.pm_worker.specs.{pm_board.declared.views.Offer.Offer, declared.mail.MailTold.MailTold, Mails.mail_told}
+use Rattle.pm_worker.specs.{pm_board.pm_board_words.declared.views.Offer.Offer, declared.mail.MailTold.MailTold, Mails.mail_told}
 use Rattle.pm_serve_pool.{specs.Closing.IsReleased, proofs.Slots.{released_at_last, same_offer}}
 use Rattle.pm_serve_pool.proofs.closing.release.Goals as goal
 

@@ -1,5 +1,5 @@
 use Rattle.std.proofs.Common.{◌≡◌}
-use Rattle.pm_worker.specs.{pm_board.{declared.views.{Offer.Offer, Sight.TheVariants.Assigned}, Places.slot_at}, declared.mail.MailTold.MailTold}
+use Rattle.pm_worker.specs.{pm_board.{pm_board_words.declared.views.{Offer.Offer, Sight.TheVariants.Assigned}, Places.slot_at}, declared.mail.MailTold.MailTold}
 use Rattle.pm_serve_pool.proofs.Slots.{IsWatched}
 use Rattle.pm_serve_pool.proofs.closing.release.Given as goal
 

@@ -1,6 +1,6 @@
 use Rattle.std.proofs.{Common.{◌≡◌, ◌∙◌, ◌+◌, ℕ, List, ap, arith, length, map, subst, sym}, lemmas.{Bool.Decides.nat_tests, List.length-replicate}}
 use Rattle.atomic_table.specs.Seated.{TableId}
-use Rattle.pm_worker.specs.{pm_board.declared.views.RosterView.RosterView, pm_spawn.Works.work_of, declared.mail.MailTold.MailTold}
+use Rattle.pm_worker.specs.{pm_board.pm_board_words.declared.views.RosterView.RosterView, pm_spawn.Works.work_of, declared.mail.MailTold.MailTold}
 use Rattle.pm_serve_pool.{specs.{Closing.IsShut, Plan.{files_of, manner_of, sessions_of, slots_of}, Works.{EachFrom, IsUnusedWork, IsWorkOf}}, proofs.{Closed.shut_new, Lists.front_of_all, Returning.unused_works, Starting.{all_idle, idle_closed, left_unused, started_few}}}
 use Rattle.pm_serve_pool.proofs.making.start.Goals as goal
 

@@ -1,8 +1,8 @@
 use Rattle.std.proofs.Common.{rules, ℕ, ◌≡◌, ◌<◌, ◌≤◌, ◌∙◌, Some, None, refl, ap, sym, subst}
-use Rattle.pm_board.specs.{pm_exit.Ends.is_exit_0, Places.is_connection, Slots.child_slots, Told.child_in, pm_keys.CancelKey.cancel_key}
+use Rattle.pm_board.specs.{pm_exit.Ends.is_exit_0, Places.is_connection, Slots.child_slots, pm_board_words.Words.status_number, Told.child_in, pm_keys.CancelKey.cancel_key}
 use Rattle.pm_session.specs.{pm_child_life.Life.{Child, nothing_told}, Session.{IsAttachedBehind, HasAskedFor, IsCaused, HeedsTold, HasCancelled, HasCome, IsSession, between}, pm_outside.pm_disk.Cause.Rose, pm_query.Calls.newcomer}
 use Rattle.pm_board_life.specs.Lives.{LifeModel, beginning, child_by, child_as, attached_of, told_by, GoesOn, GoesOnFrom}
-use Rattle.pm_worker.{specs.{declared.mail.MailTold.{MailTold, TheVariants.{Serve, Served}}, Mails.link_told, Runs.HasRunOne}, proofs.{Exits.{child_is, ends_as, may_exit, is_run, has_run, run_of}, Known.known_served, Sessions.{by_faults, told_whole, stays_inside, session_run}}}
+use Rattle.pm_worker.{specs.{declared.mail.MailTold.{MailTold, TheVariants.{Serve, Served}}, Mails.link_told, Runs.HasRunOne}, proofs.{Exits.{child_is, ends_as, may_exit, is_run, has_run, run_of}, Known.known_served, Statuses.fits, Sessions.{by_faults, told_whole, stays_inside, session_run}}}
 use Rattle.pm_worker.proofs.runs.serve_one.Goals as goal
 
 pub exit-requires-clause-runs : goal.exit-requires-clause-runs
@@ -17,6 +17,11 @@ exit-requires-clause-runs g c =
     subst (λ (x : Child). IsAttachedBehind s.0 s.2 x.attached) (ap (λ p. child_by p.knows.work) (sym c.into_post-post.ensures.post) ∙ child_is at.knows.work o c.into_post-post.ensures.living child) s.7 in
     may_exit at.knows.work o c.serve-status.result.status c.into_post-post.ensures.living child
     (λ active. ap is_exit_0 s.3 ∙ stays_inside s.0.stage s.0.exit (attached_of at.knows.work) (attached_of at.knows.work ≡ Some s.2) behind active)
+
+pub exit-requires-clause-status : goal.exit-requires-clause-status
+exit-requires-clause-status g c =
+    let s = c.serve-status.ensures.session in
+    subst (λ status. status_number status < 256) (sym s.3) (fits s.0.exit)
 
 pub exit-requires-clause-back : goal.exit-requires-clause-back
 exit-requires-clause-back g c p active ends =

@@ -1,28 +1,39 @@
 use Rattle.std.proofs.Common.{refl, sym, ap, ◌∙◌, subst}
-use Rattle.pm_board.specs.{declared.views.Work.TheVariants.Active, Told.{post_of, with_work, reposted}, Models.{HoldsMail, RunsKind, RunsPid}}
+use Rattle.pm_board_words.specs.declared.views.Work.TheVariants.{Active}
+use Rattle.pm_board.specs.{Told.{post_of, with_work, reposted}, Models.{HoldsMail, RunsKind, RunsPid}}
 use Rattle.pm_board.proofs.Steps as steps
+use Rattle.pm_board.proofs.Ties as ties
+use Rattle.pm_board.proofs.Homing as homing
 use Rattle.pm_board.proofs.post.Post.mark.Goals as goal
 
 pub fetch_add-requires : goal.fetch_add-requires
 fetch_add-requires g c =
-    let inv = c.self.invariant in
-    let t = ap (λ b. b.shared.table_id) c.deref.ensures ∙ inv.0 in
+    let inv = c.self.invariant.0 in
+    let t = ap (λ b. b.table) c.deref.ensures ∙ inv.0 in
     let does = ap (λ v. v.knows.work) c.self.view_is ∙ c.requires.1 in
     let has = subst (λ w. HoldsMail c.self.inside.index w c.self.inside.seat.me.1) does inv.4 in
-    (sym t, steps.in_words _ _ _ inv.3 inv.2 t, steps.marks_as g.J.Letter _ _ _ _ c.requires.0 _ _ _ _ (steps.doing_at c.self.inside.index c.self.inside.seat.me _ _ inv.1 does has))
+    record {
+      may = (sym t, steps.in_words _ _ _ inv.3 inv.2 t, steps.marks_as g.J.Letter _ _ _ _ c.requires.0 _ _ _ _ (steps.doing_at c.self.inside.index c.self.inside.seat.me _ _ inv.1 does has));
+      ties = ties.worker_tied g.J.Letter g.H.Home c.deref.result.now c.self.inside.seat c.self.inside.index (post_of c.self.inside.seat.me.0) _ inv.1 (λ found me told. (_, homing.reposted_to _ _ _ _ inv.1 (told c.requires.0 does), (λ _ at. absurd (homing.inactive _ _ does at))));
+    }
 
 pub invariant_of-self : goal.invariant_of-self
 invariant_of-self g c =
-    let inv = c.self.invariant in
+    let inv = c.self.invariant.0 in
     let does = ap (λ v. v.knows.work) c.self.view_is ∙ c.requires.1 in
     let has = subst (λ w. HoldsMail c.self.inside.index w c.self.inside.seat.me.1) does inv.4 in
     let runs = subst (RunsKind c.self.inside.kind) does inv.5 in
     let named = subst (RunsPid c.self.inside.pid) does inv.7 in
-    let is = steps.reposted_as c.self.inside.index c.self.inside.seat.me _ _ _ inv.1 has (c.fetch_add.ensures.2 c.requires.0 does) in
-    steps.post_sealed _ _ _ _ _ _ _ _ _ _ inv.0 c.fetch_add.ensures.0 inv.2 inv.3 is refl runs inv.6 named inv.8
+    let is = steps.reposted_as c.self.inside.index c.self.inside.seat.me _ _ _ inv.1 has (c.fetch_add.ensures.told.2 c.requires.0 does) in (
+      steps.post_sealed _ _ _ _ _ _ _ _ _ _ inv.0 c.fetch_add.ensures.told.0 inv.2 inv.3 is refl runs inv.6 named inv.8,
+      homing.post_home g.H.Home _ _ _ c.fetch_add.ensures.more c.self.invariant.1,
+    )
 
 pub returns-clause-knows : goal.returns-clause-knows
 returns-clause-knows g c o does =
-    let inv = c.self.invariant in
-    let did = c.fetch_add.ensures.2 o (ap (λ v. v.knows.work) c.self.view_is ∙ does) in
+    let inv = c.self.invariant.0 in
+    let did = c.fetch_add.ensures.told.2 o (ap (λ v. v.knows.work) c.self.view_is ∙ does) in
     ap (λ m. post_of m.0) did ∙ ap (λ z. post_of (reposted z (with_work (post_of c.self.inside.seat.me.0) (Active o)))) inv.1 ∙ ap (λ v. with_work v.knows (Active o)) c.self.view_is
+
+pub returns-clause-home : goal.returns-clause-home
+returns-clause-home g c = ap (λ m. m.0) c.fetch_add.ensures.more ∙ ap (λ v. v.home) c.self.view_is

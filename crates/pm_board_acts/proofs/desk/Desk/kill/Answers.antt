@@ -1,6 +1,6 @@
 use Rattle.std.{proofs.Common.{sym, ap, ◌∙◌}, specs.Prelude.{not, is_some}}
-use Rattle.pm_board.specs.declared.views.RosterView.{RosterView}
-use Rattle.pm_board.specs.declared.views.Signal.TheVariants as signal
+use Rattle.pm_board.specs.pm_board_words.declared.views.RosterView.{RosterView}
+use Rattle.pm_board.specs.pm_board_words.declared.views.Signal.TheVariants as signal
 use Rattle.pm_supervisor_journal.specs.Supervision.{at_work}
 use Rattle.pm_board_acts.{specs.{declared.audience.Audience.TheVariants.One, Seating.sends, Standing.view, Board.seats_of}, proofs.{Asking.{killed_goes, none_killed}, Keeping.{adds_tells, keeps_stepped}, Sends.{same-limit, same-slots, seats_same}, Reaping.reaped_stepped}}
 use Rattle.pm_board_acts.proofs.desk.Desk.kill.Goals as goal

@@ -4,8 +4,8 @@ use Rattle.pm_board_life.{specs.Lives.{LivesAs, child_by, told_by}, proofs.Livin
 use Rattle.pm_board_life.proofs.post_life.PostLifeLife.detach.Given as given
 use Rattle.pm_board_life.proofs.post_life.PostLifeLife.detach.Goals as goal
 
-pub detach-requires : goal.detach-requires
-detach-requires g c =
+pub detach-requires-clause-attached : goal.detach-requires-clause-attached
+detach-requires-clause-attached g c =
     is_attached c.self.inside.pid c.in-Some.token c.self.inside.post.knows.work
     (subst (λ a. LivesAs c.self.inside.pid a c.self.inside.post.knows.work) (sym c.take.ensures.value ∙ c.in-Some.is) c.self.invariant.0)
 

@@ -2,8 +2,8 @@ use Rattle.std.proofs.Common.{ap, sym, ◌∙◌, subst, arith, ◌<◌}
 use Rattle.pm_board_tests.proofs.GateBoards as boards
 use Rattle.pm_board_tests.proofs.gate.death.release_both.Goals as goal
 
-pub reset-next-requires : goal.reset-next-requires
-reset-next-requires c =
+pub reset-next-requires-clause-may : goal.reset-next-requires-clause-may
+reset-next-requires-clause-may c =
     let one = boards.left 3 5 2 _ _ c.requires.board (omega arith) c.in_ok-first.ensures in
     let none = boards.left 4 5 2 _ _ one (omega arith) c.in_ok-second.ensures in
     let same = ap (λ g. g.generation) (c.in_ok-second.ensures.0.gate ∙ c.in_ok-first.ensures.0.gate) ∙ c.requires.gate in

@@ -1,5 +1,5 @@
 use Rattle.std.proofs.Common.{◌≡◌}
-use Rattle.pm_board.specs.declared.views.Work.TheVariants.{Idle}
+use Rattle.pm_board.specs.pm_board_words.declared.views.Work.TheVariants.{Idle}
 use Rattle.pm_board_tests.proofs.gate.worker.work.Given as goal
 
 abbrev pub invariant-loop : goal.invariant-loop

@@ -1,5 +1,5 @@
 use Rattle.std.proofs.{Common.{◌≡◌, ap, ◌∙◌}, lemmas.List.Elements.{All-same, All-push}}
-use Rattle.pm_board.specs.declared.views.Work.TheVariants.{Idle}
+use Rattle.pm_board.specs.pm_board_words.declared.views.Work.TheVariants.{Idle}
 use Rattle.pm_board.specs.Posts as idle_posts
 use Rattle.pm_child_tests.proofs.Crews as crews
 use Rattle.pm_child_tests.proofs.worker.pool.workers.Goals as goal

@@ -1,6 +1,6 @@
 use Rattle.std.{proofs.{Common.{◌≡◌, ℕ, ap, refl}, lemmas.Result.err_from_is_err_and}, specs.Prelude.is_some}
 use Rattle.atomic_table.specs.Seated.{TableId}
-use Rattle.pm_worker.specs.{pm_board.declared.views.RosterView.RosterView, declared.mail.MailTold.MailTold}
+use Rattle.pm_worker.specs.{pm_board.pm_board_words.declared.views.RosterView.RosterView, declared.mail.MailTold.MailTold}
 use Rattle.pm_supervisor_journal.specs.Stands.{AtWork}
 use Rattle.pm_postmaster.{specs.{Serving.Keeps, View.{View, view_of}}, proofs.{Calling.{IsBeside, short, still}, Going.{alive_on, both_done, none_done, stops_on}}}
 use Rattle.pm_postmaster.proofs.server.Server.accept.Goals as goal

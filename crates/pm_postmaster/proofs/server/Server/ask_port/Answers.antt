@@ -1,5 +1,5 @@
 use Rattle.std.{proofs.Common.{◌≡◌, ◌⊎◌, inl, inr, ◌∙◌, ℕ, ◌+◌, Option, None, Some, ap, length, refl, subst, sym}, specs.Prelude.{IfSome, false, is_some, option_map}}
-use Rattle.pm_board_acts.specs.{pm_board.declared.views.RosterView.RosterView, pm_supervisor_journal.{Standing.{Standing, later}, Supervision.at_work}, pm_modes.declared.Mode.TheVariants.Smart, Seating.PortEnds}
+use Rattle.pm_board_acts.specs.{pm_board.pm_board_words.declared.views.RosterView.RosterView, pm_supervisor_journal.{Standing.{Standing, later}, Supervision.at_work}, pm_modes.declared.Mode.TheVariants.Smart, Seating.PortEnds}
 use Rattle.pm_worker.specs.{pm_outside.{Visits.{Visits, after_accept}, declared.port.Accepted.Accepted}, declared.mail.MailTold.MailTold}
 use Rattle.pm_worker.specs.pm_outside.declared.port.Accepted.TheVariants as answers
 use Rattle.pm_postmaster.{specs.{Links.HasLinks, View.view_of}, proofs.{Admitted.{admitted_on, no_link, still_numbered, unused_at}, Asked.{has_come, owes_none}, Calling.{IsBeside, asks_end, leaves, leaves_store, same_past, short_end, still}, Cleared.near_slots, Steps.{LinksStay, asked_on}}}

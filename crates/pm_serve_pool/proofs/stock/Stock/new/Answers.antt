@@ -1,6 +1,6 @@
 use Rattle.std.proofs.Common.{ℕ, List, subst, sym}
 use Rattle.pm_worker.specs.{pm_board.Models.{AreNewPosts, PostModel}, declared.mail.MailTold.MailTold}
-use Rattle.pm_board.specs.declared.views.SessionLimit.{SessionLimit}
+use Rattle.pm_board.specs.pm_board_words.declared.views.SessionLimit.{SessionLimit}
 use Rattle.pm_serve_pool.specs.Plan.{sessions_of, slots_of}
 use Rattle.pm_serve_pool.proofs.stock.Stock.new.Goals as goal
 

@@ -1,0 +1,4 @@
+pub mod Homes
+pub mod Views
+pub mod Nothing
+pub mod NothingLaws

@@ -1,0 +1,9 @@
+pub mod ByItself
+pub mod Databases
+pub mod FateLaws
+pub mod Givens
+pub mod HeldLaws
+pub mod Holds
+pub mod Names
+pub mod Sums
+pub mod Weights

@@ -1,0 +1,11 @@
+use Rattle.std.proofs.{Common.{◌≡◌, ◌-◌, ◌^◌, min, sym, ap, ◌∙◌, arith}, lemmas.Grind.common_steps}
+use Rattle.pm_tables.{specs.{Sizes.{table_rows, rows_of}, Inside.tables_in}, proofs.Databases.capped_total}
+use Rattle.pm_tables.proofs.tables.Tables.len.Goals as goal
+
+pub returns : goal.returns
+returns c =
+    let kept : min (rows_of c.args.self.now) (2 ^ 64 - 1) ≡ min c.self.inside.totals.rows (2 ^ 64 - 1) =
+    ap (λ m. min (rows_of m) (2 ^ 64 - 1)) (sym c.self.view_is)
+    ∙ sym (capped_total table_rows (tables_in c.self.inside.tables))
+    ∙ ap (λ n. min n (2 ^ 64 - 1)) (sym c.self.invariant.rows) in
+    rw (kept, c.unwrap_or.ensures) (grind (arith, common_steps, c.try_from.ensures))
