@@ -1,0 +1,5 @@
+pub mod Adding
+pub mod Asking
+pub mod Grammar
+pub mod Lexing
+pub mod Plain
