@@ -1,0 +1,13 @@
+pub mod Texts
+pub mod Strings
+pub mod Fronts
+pub mod Tokens
+pub mod Lexings
+pub mod Words
+pub mod Parts
+pub mod Values
+pub mod ModeForms
+pub mod ReadForms
+pub mod Accepted
+pub mod Apart
+pub mod Tellings
